@@ -1,0 +1,7 @@
+pub mod Cases
+pub mod Tests
+pub mod Digits
+pub mod Fill
+pub mod Stores
+pub mod Limits
+pub mod Determined

@@ -1,0 +1,4 @@
+pub mod Tests
+pub mod Digits
+pub mod Lists
+pub mod Refusals

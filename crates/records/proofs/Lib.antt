@@ -1,0 +1,4 @@
+mod Numbers
+mod Writing
+mod Lines
+mod Answers

@@ -1,0 +1,11 @@
+pub mod Orders
+pub mod References
+pub mod Nodes
+pub mod Walks
+pub mod Right
+pub mod Decode
+pub mod Calls
+pub mod Sizes
+pub mod Held
+pub mod Listed
+pub mod Determined

@@ -1,0 +1,146 @@
+-- Demand 3: the turn is right, for every dimension, order and vector; and so are the lists that the two calls leave. Assumes nothing.
+use mathlib.Core.Path.{_≡_, refl, sym, ap, _∙_}
+use mathlib.Core.Bool.{Bool, true}
+use mathlib.Core.List.{List}
+use Prim.Native.Nat.{ℕ, zero, suc, _^_, _<_, _≤_}
+use native.Mathlib.Omega.{arith}
+use lib.Arith.{digits-lt, digits-div, digits-mod}
+use lib.Dec.{eqb}
+use lib.IntN.{ℤ, pos, negsuc, natAbs, negℤ, _+ℤ_, _*ℤ_, negℤ-+ℤ, pos-*ℤ-negsuc}
+use lib.ListN.{length, getD}
+use borrow.Author.Tests.{lt-ltb, eq-eqb}
+use Rattle.common.specs.Digits.{number, digit}
+use Rattle.common.specs.Refusals.{Shape}
+use Rattle.common.specs.Lists.{tabulate}
+use Rattle.common.proofs.Cases.{inside}
+use Rattle.common.proofs.Digits.{digit-number, digit-below, number-below}
+use Rattle.common.proofs.Fill.{getD-tabulate}
+use Rattle.common.proofs.Limits.{left-done}
+use Rattle.turn.specs.Order.{axis, order, sorted}
+use Rattle.turn.specs.Vectors.{sizes, sign, case, near, references, entry, reference}
+use Rattle.turn.specs.Turned.{reversed, negative, axisOf, turned, returned}
+use Rattle.turn.specs.Tables.{cases, tableNumber, tableCall}
+use Rattle.turn.specs.Turns.{Far, Mirrored, distance, Turns, Matches, TurnIsRight}
+use Rattle.turn.proofs.Orders.{order-below}
+use Rattle.turn.proofs.References.{reference-below, reference-entry, reference-matches, reference-only, near-none}
+use Rattle.turn.proofs.Nodes.{turned-index, turned-below, returned-below, returned-turned, turned-returned, axisOf-below}
+
+-- WHAT A VECTOR'S CASE SAYS
+
+isNegative : ℤ → Bool
+isNegative z = eqb (sign z) 0
+
+pub sign-below : (z : ℤ) → sign z < 2
+sign-below (pos n) = omega arith
+sign-below (negsuc n) = omega arith
+
+case-axis : (D : ℕ) (v : ℕ → ℤ) (m : ℕ) → axisOf D (case D v) m ≡ axis D (order D (sizes v)) m
+unfolding axisOf case
+case-axis D v m = rw (digits-mod (number 2 D (λ a. sign (v a))) (order-below D (sizes v)))
+
+case-negative : (D : ℕ) (v : ℕ → ℤ) (a : ℕ) → a < D → negative D (case D v) a ≡ isNegative (v a)
+unfolding negative case isNegative
+case-negative D v a l =
+    rw (
+      digits-div (number 2 D (λ b. sign (v b))) (order-below D (sizes v)),
+      digit-number 2 D (λ b. sign (v b)) (λ b _. sign-below (v b)) a l,
+    )
+
+-- a vector's case is one that the tables take
+pub case-below : (D : ℕ) (v : ℕ → ℤ) → case D v < cases D
+unfolding case
+case-below D v = digits-lt (number-below 2 D _ (λ a _. sign-below (v a))) (order-below D (sizes v))
+
+-- DISTANCES
+
+natAbs-neg : (z : ℤ) → natAbs (negℤ z) ≡ natAbs z
+natAbs-neg (pos zero) = refl
+natAbs-neg (pos (suc n)) = refl
+natAbs-neg (negsuc n) = refl
+
+distance-neg : (n : ℕ) (s t : ℤ) → distance (negsuc n) (negℤ s) (negℤ t) ≡ negℤ (distance (pos (suc n)) s t)
+unfolding distance
+distance-neg n s t = rw (negℤ-+ℤ (pos 2 *ℤ pos (suc n) +ℤ s) (negℤ t), negℤ-+ℤ (pos 2 *ℤ pos (suc n)) s, pos-*ℤ-negsuc 2 n)
+
+-- one axis: a negative entry negates the distance
+distance-reversed : (p : ℕ) (x : ℕ → ℤ) → Mirrored p x → (e : ℤ) (i j : ℕ) → i < p → j < p →
+    natAbs (distance (pos (natAbs e)) (x i) (x j)) ≡ natAbs (distance e (x (reversed p (isNegative e) i)) (x (reversed p (isNegative e) j)))
+unfolding reversed isNegative
+distance-reversed p x h (pos n) i j li lj = refl
+distance-reversed p x h (negsuc n) i j li lj =
+    rw (h i li, h j lj, distance-neg n (x i) (x j)) (sym (natAbs-neg (distance (pos (suc n)) (x i) (x j))))
+
+-- THE THEOREM
+
+-- Every vector, near or far: the block of its sorted sizes is turned onto it by its case's tables.
+pub turns : (D p : ℕ) (v : ℕ → ℤ) → 0 < p → Turns D p (sorted D (sizes v)) v (turned D p (case D v)) (returned D p (case D v))
+unfolding sorted
+turns D p v o =
+    let k = case D v in
+    record {
+      distances = λ x h s t m ls lt l. rw (
+        ← case-axis D v m,
+        turned-index D p k o s m l,
+        turned-index D p k o t m l,
+        case-negative D v (axisOf D k m) (axisOf-below D p k o m l),
+      )
+          (distance-reversed p x h (v (axisOf D k m)) _ _ (digit-below p D m s o) (digit-below p D m t o));
+      stays = λ n _. turned-below D p k o n;
+      back = returned-turned D p k o;
+      there = turned-returned D p k o;
+    }
+
+-- the same for blocks and tables that agree with these
+turns-alike : (D p : ℕ) (r r' : ℕ → ℕ) (v : ℕ → ℤ) (f g t u : ℕ → ℕ) → ((m : ℕ) → m < D → r' m ≡ r m) →
+    ((n : ℕ) → n < p ^ D → t n ≡ f n) → ((n : ℕ) → n < p ^ D → u n ≡ g n) → ((n : ℕ) → n < p ^ D → g n < p ^ D) →
+    Turns D p r v f g → Turns D p r' v t u
+turns-alike D p r r' v f g t u er et eu below w =
+    record {
+      distances = λ x h a b m la lb l. rw (er m l, et a la, et b lb) (w .distances x h a b m la lb l);
+      stays = λ n l. rw (et n l) (w .stays n l);
+      back = λ n l. rw (et n l, eu (f n) (w .stays n l)) (w .back n l);
+      there = λ n l. rw (eu n l, et (g n) (below n l)) (w .there n l);
+    }
+
+module _ (D p : ℕ) (v : ℕ → ℤ) (o : 0 < p) (far : Far D (sizes v)) (t u : ℕ → ℕ)
+    (et : (n : ℕ) → n < p ^ D → t n ≡ turned D p (case D v) n) (eu : (n : ℕ) → n < p ^ D → u n ≡ returned D p (case D v) n) where
+  right-alike : TurnIsRight D p v t u
+  right-alike =
+      record {
+        listed = reference-below D v far;
+        matches = reference-matches D v far;
+        only = reference-only D v far;
+        turns = turns-alike D p (sorted D (sizes v)) (entry D (reference D v)) v (turned D p (case D v)) (returned D p (case D v)) t u
+            (reference-entry D v far) et eu (λ n _. returned-below D p (case D v) o n) (turns D p v o);
+      }
+
+-- DEMAND 3, for any order from 1
+pub turn-is-right : (D p : ℕ) (v : ℕ → ℤ) → 0 < p → Far D (sizes v) → TurnIsRight D p v (turned D p (case D v)) (returned D p (case D v))
+turn-is-right D p v o far = right-alike D p v o far _ _ (λ _ _. refl) (λ _ _. refl)
+
+-- THE LISTS IN MEMORY
+
+-- a table of the right length is filled
+filled : (D p k : ℕ) (f : ℕ → ℕ) (l : List ℕ) → Shape D p → k < cases D → length l ≡ p ^ D → (n : ℕ) → n < p ^ D → getD (tableCall D p k f l .1) n 0 ≡ f n
+unfolding tableCall tableNumber
+filled D p k f l ok hk e n b =
+    let done : tableNumber D p k (length l) ≡ 0 = rw (
+      inside 1 3 D (ok .dimension-least) (ok .dimension-most),
+      inside 1 16 p (ok .order-least) (ok .order-most),
+      lt-ltb k (cases D) hk,
+      eq-eqb (length l) (p ^ D) e,
+    ) in
+    rw (left-done (tableNumber D p k (length l)) (tabulate (p ^ D) f) l done) (getD-tabulate (p ^ D) f n 0 b)
+
+-- what `combined_permutation` and `inverse_permutation` leave for a far vector's case, in tables lent with the right length, is right
+pub right-in-memory : (D p : ℕ) (v : ℕ → ℤ) → Shape D p → Far D (sizes v) → (table inverse : List ℕ) → length table ≡ p ^ D → length inverse ≡ p ^ D →
+    TurnIsRight D p v
+    (λ n. getD (tableCall D p (case D v) (turned D p (case D v)) table .1) n 0)
+    (λ n. getD (tableCall D p (case D v) (returned D p (case D v)) inverse .1) n 0)
+right-in-memory D p v ok far t u et eu =
+    right-alike D p v (ok .order-least) far _ _
+    (filled D p (case D v) _ t ok (case-below D v) et) (filled D p (case D v) _ u ok (case-below D v) eu)
+
+-- NEAR VECTORS: `turns` holds of them, and no reference has their sorted sizes
+pub near-has-none : (D : ℕ) (v : ℕ → ℤ) → 0 < D → near D v ≡ true → (i : ℕ) → i < length (references D) → Matches D v i → ⊥
+near-has-none = near-none

@@ -1,0 +1,274 @@
+// Looking up a vector: its index, its case and its reference. An entry is held as a digit, three more than it is.
+ghost use mathlib.Core.Path.{_≡_};
+ghost use Prim.Native.Nat.{_+_, _*_, _<_, _≤_, min, max};
+ghost use Rattle.common.specs.Digits.{number};
+ghost use Rattle.turn.specs.Order.{factorial, order};
+ghost use Rattle.turn.specs.LookUps.{lookUp, entryOf, referenceCall};
+ghost use Rattle.turn.specs.Working.{shifted as shiftedTo, sizeOf, signOf, three, vectorOf, eachOf, swap, referenceOf, digitsNumber, digitNumber, lower, Small, Past};
+use crate::Entry;
+use crate::LookUp;
+use crate::Reference;
+use crate::Three;
+use crate::Vector;
+use crate::factorial_of;
+
+const REFERENCES_1: [Vector; 2] = [Vector(2, 0, 0), Vector(3, 0, 0)];
+
+const REFERENCES_2: [Vector; 7] = [
+    Vector(2, 0, 0),
+    Vector(2, 1, 0),
+    Vector(2, 2, 0),
+    Vector(3, 0, 0),
+    Vector(3, 1, 0),
+    Vector(3, 2, 0),
+    Vector(3, 3, 0),
+];
+
+const REFERENCES_3: [Vector; 16] = [
+    Vector(2, 0, 0),
+    Vector(2, 1, 0),
+    Vector(2, 1, 1),
+    Vector(2, 2, 0),
+    Vector(2, 2, 1),
+    Vector(2, 2, 2),
+    Vector(3, 0, 0),
+    Vector(3, 1, 0),
+    Vector(3, 1, 1),
+    Vector(3, 2, 0),
+    Vector(3, 2, 1),
+    Vector(3, 2, 2),
+    Vector(3, 3, 0),
+    Vector(3, 3, 1),
+    Vector(3, 3, 2),
+    Vector(3, 3, 3),
+];
+
+// An entry from -3 to 3 as a digit, three more than it is; 7 for any other.
+fn shifted(e: i32) -> usize
+    ensures { λ r. ⌜ r ≡ shiftedTo e ⌝ }
+{
+    match e {
+        -3 => 0,
+        -2 => 1,
+        -1 => 2,
+        0 => 3,
+        1 => 4,
+        2 => 5,
+        3 => 6,
+        _ => 7,
+    }
+}
+
+fn size_of(d: usize) -> usize
+    ensures { λ r. ⌜ r ≡ sizeOf d ⌝ }
+{
+    if d < 3 { 3 - d } else { d - 3 }
+}
+
+fn sign_of(d: usize) -> usize
+    ensures { λ r. ⌜ r ≡ signOf d ⌝ }
+{
+    if d < 3 { 0 } else { 1 }
+}
+
+fn sizes_of(d: Three) -> Three
+    ensures { λ r. ⌜ r ≡ eachOf sizeOf d ⌝ }
+{
+    Three(size_of(d.0), size_of(d.1), size_of(d.2))
+}
+
+fn signs_of(d: Three) -> Three
+    ensures { λ r. ⌜ r ≡ eachOf signOf d ⌝ }
+{
+    Three(sign_of(d.0), sign_of(d.1), sign_of(d.2))
+}
+
+// The number with these digits, one for each axis of the dimension.
+fn number_of(base: usize, dimension: usize, d: Three) -> usize
+    requires { ⌜ (base ≤ 7) × Small dimension 7 d ⌝ }
+    ensures { λ r. ⌜ r ≡ number base dimension (three d) ⌝ }
+{
+    if dimension < 2 {
+        return d.0;
+    }
+    let two = d.0 * base + d.1;
+    if dimension < 3 {
+        return two;
+    }
+    two * base + d.2
+}
+
+// 1 where the second of two sizes comes before the first, as the larger.
+fn swapped(a: usize, b: usize) -> usize
+    ensures { λ r. ⌜ r ≡ swap a b ⌝ }
+{
+    if a < b { 1 } else { 0 }
+}
+
+// The number of the order by falling size, equals by axis number.
+fn order_of(dimension: usize, s: Three) -> usize
+    requires { ⌜ Small dimension 4 s ⌝ }
+    ensures { λ r. ⌜ r ≡ order dimension (three s) ⌝ }
+{
+    if dimension < 2 {
+        return 0;
+    }
+    if dimension < 3 {
+        return swapped(s.0, s.1);
+    }
+    if s.0 < s.1 {
+        if s.1 < s.2 {
+            return 5;
+        }
+        return 2 + swapped(s.0, s.2);
+    }
+    if s.0 < s.2 {
+        return 4;
+    }
+    swapped(s.1, s.2)
+}
+
+fn case_of(dimension: usize, d: Three, s: Three) -> usize
+    requires { ⌜ Small dimension 7 d × Small dimension 4 s ⌝ }
+    ensures { λ r. ⌜ r ≡ number 2 dimension (three (eachOf signOf d)) * factorial dimension + order dimension (three s) ⌝ }
+{
+    let signs = number_of(2, dimension, signs_of(d));
+    signs * factorial_of(dimension) + order_of(dimension, s)
+}
+
+fn most(a: usize, b: usize) -> usize
+    ensures { λ r. ⌜ r ≡ max a b ⌝ }
+{
+    if a < b { b } else { a }
+}
+
+fn least(a: usize, b: usize) -> usize
+    ensures { λ r. ⌜ r ≡ min a b ⌝ }
+{
+    if a < b { a } else { b }
+}
+
+fn largest_of(s: Three) -> usize
+    ensures { λ r. ⌜ r ≡ max (max (s .0) (s .1)) (s .2) ⌝ }
+{
+    most(most(s.0, s.1), s.2)
+}
+
+fn smallest_of(s: Three) -> usize
+    ensures { λ r. ⌜ r ≡ min (min (s .0) (s .1)) (s .2) ⌝ }
+{
+    least(least(s.0, s.1), s.2)
+}
+
+// The number of the reference with these sizes: how many references come before it. Those that begin with 2 number
+// 1, 3 or 6, by the dimension; those that begin alike, and go on with a smaller entry m, number m, or m (m + 1) / 2.
+fn reference_of(dimension: usize, s: Three) -> usize
+    requires { ⌜ Small dimension 4 s × Past dimension 0 s ⌝ }
+    ensures { λ r. ⌜ r ≡ referenceOf dimension (three s) ⌝ }
+{
+    let large = largest_of(s);
+    if large < 2 {
+        return 0;
+    }
+    if dimension < 2 {
+        return large - 2;
+    }
+    let small = smallest_of(s);
+    let middle = s.0 + s.1 + s.2 - large - small;
+    if dimension < 3 {
+        return (large - 2) * 3 + middle;
+    }
+    (large - 2) * 6 + middle * (middle + 1) / 2 + small
+}
+
+fn entry_of(dimension: usize, d: Three) -> Entry
+    requires { ⌜ Small dimension 7 d × Past dimension 3 d ⌝ }
+    ensures { λ r. ⌜ r ≡ entryOf dimension (vectorOf d) ⌝ }
+{
+    let s = sizes_of(d);
+    Entry {
+        index: number_of(7, dimension, d),
+        case: case_of(dimension, d, s),
+        reference: reference_of(dimension, s),
+        near: largest_of(s) < 2,
+    }
+}
+
+// The refusal that one digit brings, or 0: past the dimension every entry is 0.
+fn digit_number(is_past: bool, d: usize) -> u8
+    ensures { λ r. ⌜ r ≡ digitNumber «is_past» d ⌝ }
+{
+    if is_past {
+        if d == 3 { 0 } else { 6 }
+    } else if d < 7 {
+        0
+    } else {
+        4
+    }
+}
+
+// The lower of two refusals, 0 being none.
+fn lower_of(a: u8, b: u8) -> u8
+    ensures { λ r. ⌜ r ≡ lower a b ⌝ }
+{
+    if a == 0 {
+        return b;
+    }
+    if b == 0 {
+        return a;
+    }
+    if a < b { a } else { b }
+}
+
+// The lowest refusal that the digits of a vector bring, or 0.
+fn digits_number(dimension: usize, d: Three) -> u8
+    requires { ⌜ (d .0 < 8) × (d .1 < 8) × (d .2 < 8) ⌝ }
+    ensures { λ r. ⌜ r ≡ digitsNumber dimension (three d) ⌝ }
+{
+    if dimension < 1 {
+        return 1;
+    }
+    if 3 < dimension {
+        return 1;
+    }
+    let rest = lower_of(
+        digit_number(dimension < 2, d.1),
+        digit_number(dimension < 3, d.2),
+    );
+    lower_of(digit_number(false, d.0), rest)
+}
+
+pub fn look_up(dimension: usize, vector: Vector) -> LookUp
+    ensures { λ r. ⌜ r ≡ lookUp dimension vector ⌝ }
+{
+    let d = Three(shifted(vector.0), shifted(vector.1), shifted(vector.2));
+    let refused = digits_number(dimension, d);
+    if refused != 0 {
+        return LookUp::Refused(refused);
+    }
+    LookUp::Found(entry_of(dimension, d))
+}
+
+pub fn reference_vector(dimension: usize, number: usize) -> Reference
+    ensures { λ r. ⌜ r ≡ referenceCall dimension number ⌝ }
+{
+    if dimension == 1 {
+        if number < 2 {
+            return Reference::Found(REFERENCES_1[number]);
+        }
+        return Reference::Refused(5);
+    }
+    if dimension == 2 {
+        if number < 7 {
+            return Reference::Found(REFERENCES_2[number]);
+        }
+        return Reference::Refused(5);
+    }
+    if dimension == 3 {
+        if number < 16 {
+            return Reference::Found(REFERENCES_3[number]);
+        }
+        return Reference::Refused(5);
+    }
+    Reference::Refused(1)
+}

@@ -1,0 +1,32 @@
+//! Takes in the Rust text, unchanged, at the places of the crate where it expects to stand.
+//!
+//! The text is not ours to tidy, so its modules keep their warnings to themselves.
+
+/// The kernel trait of the text.
+#[allow(clippy::all)]
+pub mod traits {
+    include!(env!("TEXT_TRAITS"));
+}
+pub use traits::KernelFunction;
+
+/// The matrix helpers of the text.
+#[allow(clippy::all)]
+pub mod utils {
+    include!(env!("TEXT_UTILS"));
+}
+
+/// The cross approximation of the text.
+#[allow(clippy::all)]
+pub mod aca {
+    include!(env!("TEXT_ACA"));
+}
+
+pub mod bbfmm;
+
+/// The tables and transfers of the text, with our own door to its private functions.
+#[allow(clippy::all, dead_code, unused_imports)]
+pub mod chebyshev {
+    include!(env!("TEXT_CHEBYSHEV"));
+
+    pub mod reach;
+}

@@ -1,0 +1,72 @@
+//! Writes the input and the answers of both comparisons into the repository its argument names.
+
+mod check;
+mod lookup;
+mod replay;
+
+use lookup::Lookup;
+use oracle::chebyshev::reach::{Tables, tables};
+use replay::Replay;
+use std::path::{Path, PathBuf};
+use std::process::exit;
+use std::{env, fs};
+
+const ORDERS: [usize; 7] = [1, 2, 3, 4, 5, 6, 16];
+
+/// The tables of every dimension and order, both rising.
+fn ask() -> Vec<Tables> {
+    (1..=3)
+        .flat_map(|dimension| ORDERS.map(|order| tables(dimension, order)))
+        .collect()
+}
+
+/// A vector of up to three entries, filled up with 0.
+fn filled(vector: &[i32]) -> [i32; 3] {
+    std::array::from_fn(|axis| vector.get(axis).copied().unwrap_or(0))
+}
+
+fn write(path: &Path, content: &[u8]) -> Result<(), String> {
+    let fault = |error| format!("cannot write {}: {error}", path.display());
+    if let Some(folder) = path.parent() {
+        fs::create_dir_all(folder).map_err(fault)?;
+    }
+    fs::write(path, content).map_err(fault)
+}
+
+fn write_all(root: &Path, replay: &Replay, lookup: &Lookup) -> Result<(), String> {
+    let folder = root.join("crates/replay_turn");
+    write(&folder.join("stdin"), &replay.input)?;
+    write(&folder.join("stdout"), replay.answers.as_bytes())?;
+
+    let folder = root.join("crates/lookup_cases");
+    for file in &lookup.files {
+        write(&folder.join("data").join(file.name), &file.content)?;
+    }
+    write(&folder.join("stdout"), lookup.answers().as_bytes())
+}
+
+fn run() -> Result<(), String> {
+    let root = env::args_os()
+        .nth(1)
+        .map(PathBuf::from)
+        .ok_or("name the repository to write into")?;
+    let tables = ask();
+    // Nothing is written unless every check holds.
+    check::tables(&tables)?;
+    check::lookups(&tables)?;
+    check::sample(&tables)?;
+
+    let replay = replay::replay(&tables);
+    let lookup = lookup::lookup(&tables);
+    check::refusals(&lookup)?;
+    write_all(&root, &replay, &lookup)?;
+    check::count(&tables, &replay, &lookup);
+    Ok(())
+}
+
+fn main() {
+    if let Err(message) = run() {
+        eprintln!("oracle: {message}");
+        exit(1);
+    }
+}

@@ -69,7 +69,8 @@ fn step_of(dimension: usize, order: usize, case: usize, e: usize) -> usize
     if dimension <= e {
         return 0;
     }
-    let axis = axis_of(dimension, case % factorial_of(dimension), dimension - 1 - e);
+    let m = dimension - 1 - e;
+    let axis = axis_of(dimension, case % factorial_of(dimension), m);
     let weight = common::power(order, dimension - 1 - axis);
     if is_negative(dimension, case, axis) {
         return usize::MAX - (weight - 1);

@@ -217,7 +217,7 @@ fn lower_of(a: u8, b: u8) -> u8
     if b == 0 {
         return a;
     }
-    if a < b { a } else { b }
+    if b < a { b } else { a }
 }
 
 // The lowest refusal that the digits of a vector bring, or 0.

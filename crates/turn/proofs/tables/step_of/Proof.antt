@@ -13,17 +13,17 @@ use Rattle.turn.proofs.tables.step_of.Tie as tie
 returns : tie.Need-returns
 returns c = let a = c .before .args in no-step (a .dimension) (a .order) (a .case) (a .e) (c .if1 .taken)
 
+sub-m : tie.Need-sub-m
+sub-m c = search needs
+
+sub-m-2 : tie.Need-sub-m-2
+sub-m-2 c = search needs
+
 factorial-of-requires : tie.Need-factorial-of-requires
 factorial-of-requires c κs = search needs
 
 rem-axis-of : tie.Need-rem-axis-of
 rem-axis-of c = rw (c .factorial-of .ensures) (factorial-pos (c .before .before .args .dimension))
-
-sub-axis-of : tie.Need-sub-axis-of
-sub-axis-of c = search needs
-
-sub-axis-of-2 : tie.Need-sub-axis-of-2
-sub-axis-of-2 c = search needs
 
 axis-of-requires : tie.Need-axis-of-requires
 axis-of-requires c κs =
@@ -85,10 +85,10 @@ step-of-spec =
     tie.close
     (tie.spec
     returns
+    sub-m
+    sub-m-2
     factorial-of-requires
     rem-axis-of
-    sub-axis-of
-    sub-axis-of-2
     axis-of-requires
     sub-power
     sub-power-2

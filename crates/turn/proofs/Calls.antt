@@ -1,21 +1,20 @@
 -- What the tables' number says, and what a call then answers and leaves. Assumes nothing.
-use mathlib.Core.Path.{_≡_, refl, _∙_}
+use mathlib.Core.Path.{_≡_, refl}
 use mathlib.Core.Bool.{Bool, true, false}
 use mathlib.Core.List.{List}
-use Prim.Native.Nat.{ℕ, _*_, _^_, _<_, _≤_}
+use Prim.Native.Nat.{ℕ, _^_, _<_, _≤_}
 use native.Mathlib.Omega.{arith}
 use lib.Dec.{ltb, eqb}
 use lib.ListN.{length}
-use borrow.Author.Tests.{ltb-true, eqb-true, lt-ltb, le-ltb, eq-eqb, ne-eqb}
+use borrow.Author.Tests.{eqb-true, lt-ltb, le-ltb, eq-eqb, ne-eqb}
 use Rattle.common.specs.Lists.{tabulate, stores}
-use Rattle.common.specs.Refusals.{isDimension, isOrder, Shape, shapeNumber, left}
+use Rattle.common.specs.Refusals.{isDimension, isOrder, Shape, shapeNumber}
 use Rattle.common.proofs.Cases.{by-bool}
 use Rattle.common.proofs.Limits.{shape-taken, left-done, left-refused}
 use Rattle.common.proofs.Stores.{stores-all}
-use Rattle.turn.specs.Order.{factorial}
 use Rattle.turn.specs.Turned.{turned, returned}
 use Rattle.turn.specs.Tables.{cases, tableNumber, tableCall}
-use Rattle.turn.specs.Working.{stored}
+use Rattle.turn.specs.Working.{stored, entryOf}
 use Rattle.turn.proofs.Nodes.{turned-below, returned-below, returned-turned, turned-returned}
 
 -- THE NUMBER, by the tests that lead to it
@@ -69,16 +68,14 @@ accepted D p k n =
 
 -- THE CALL
 
--- what the walk stores is the table, and its inverse
-pub walked-table : (D p k : ℕ) (l : List ℕ) → Accepted D p (length l) → stored false (λ n. n) (turned D p k) (p ^ D) l ≡ tabulate (p ^ D) (turned D p k)
+-- what the walk stores is the table, or its inverse
+pub walked-table : (inverse : Bool) (D p k : ℕ) (l : List ℕ) → Accepted D p (length l) →
+    stored inverse (λ n. n) (turned D p k) (p ^ D) l ≡ tabulate (p ^ D) (entryOf inverse D p k)
 unfolding stored
-walked-table D p k l ok =
+walked-table false D p k l ok =
     stores-all (p ^ D) (λ n. n) (λ n. n) (turned D p k) 0 l
     (record { within = λ _ h. h; back = λ _ _. refl; there = λ _ _. refl }) (λ _ h. h) (ok .whole)
-
-pub walked-inverse : (D p k : ℕ) (l : List ℕ) → Accepted D p (length l) → stored true (λ n. n) (turned D p k) (p ^ D) l ≡ tabulate (p ^ D) (returned D p k)
-unfolding stored
-walked-inverse D p k l ok =
+walked-table true D p k l ok =
     let o = ok .shape .order-least in
     stores-all (p ^ D) (turned D p k) (returned D p k) (λ n. n) 0 l
     (record { within = λ n _. returned-below D p k o n; back = returned-turned D p k o; there = turned-returned D p k o })

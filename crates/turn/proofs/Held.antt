@@ -1,19 +1,18 @@
 -- A vector held as digits, three more than its entries, is the vector. Assumes nothing.
 use mathlib.Core.Path.{_≡_, refl, sym, ap, _∙_}
 use mathlib.Core.Bool.{Bool, true, false, _&&_, and-eq-true-iff}
-use mathlib.Core.List.{List}
 use Prim.Native.Nat.{ℕ, zero, suc, _+_, _-_, _*_, _<_, _≤_}
 use native.Mathlib.Nat.{zero-add, zero-mul, pow-le-pow-right}
 use native.Mathlib.Omega.{arith}
 use lib.Dec.{leb, ltb, eqb}
-use lib.IntN.{ℤ, pos, negsuc, natAbs, _+ℤ_, _-ℤ_, pos-+ℤ-pos, +ℤ-negℤ-cancel, -ℤ-+ℤ-cancel}
+use lib.IntN.{ℤ, pos, negsuc, natAbs, _+ℤ_}
 use mir.Syntax.{w32}
 use mir.Val.{SFits, ofZ, toZ}
 use mir.Facts.{toZ-ofZ}
-use borrow.Author.Tests.{le-leb, lt-leb, leb-true, ltb-true, eqb-true, ne-eqb, le-ltb, lt-ltb}
+use borrow.Author.Tests.{le-leb, lt-leb, leb-true, ltb-true, eqb-true, lt-ltb}
 use Rattle.common.specs.Tests.{each}
 use Rattle.common.specs.Digits.{number}
-use Rattle.common.specs.Refusals.{isDimension, unless}
+use Rattle.common.specs.Refusals.{isDimension}
 use Rattle.common.proofs.Cases.{by-bool, by-lt, fun-ext, inside-low, inside-high}
 use Rattle.common.proofs.Tests.{each-at}
 use Rattle.common.proofs.Digits.{number-cong, number-below}
@@ -23,7 +22,7 @@ use Rattle.turn.specs.declared.Three.{Three}
 use Rattle.turn.specs.declared.Entry.{Entry}
 use Rattle.turn.specs.declared.LookUp.the-variants.{Refused, Found}
 use Rattle.turn.specs.Order.{factorial, order}
-use Rattle.turn.specs.Vectors.{sizes, sign, index, case, atMost, near, farReference, reference}
+use Rattle.turn.specs.Vectors.{sizes, sign, index, case, atMost, near, reference}
 use Rattle.turn.specs.LookUps.{entries, lookUpNumber, entryOf, lookUp}
 use Rattle.turn.specs.Working.{shifted, unshifted, sizeOf, signOf, three, vectorOf, eachOf, digitsNumber, digitNumber, lower, referenceOf, Small, Past}
 
@@ -50,7 +49,7 @@ shifted-rest (negsuc (suc (suc (suc n)))) a b c z x y w = rw (lt-leb (suc (suc (
 -- DIGITS OF ENTRIES
 
 -- an entry of size at most 3 is one of seven
-by-entry : (P : ℤ → Type 0) → P (negsuc 2) → P (negsuc 1) → P (negsuc 0) → P (pos 0) → P (pos 1) → P (pos 2) → P (pos 3) →
+pub by-entry : (P : ℤ → Type 0) → P (negsuc 2) → P (negsuc 1) → P (negsuc 0) → P (pos 0) → P (pos 1) → P (pos 2) → P (pos 3) →
     (e : ℤ) → natAbs e ≤ 3 → P e
 by-entry P a b c z x y w (pos zero) l = z
 by-entry P a b c z x y w (pos (suc zero)) l = x

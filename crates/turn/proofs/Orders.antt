@@ -3,11 +3,9 @@ use mathlib.Core.Path.{_≡_, refl, sym, ap}
 use mathlib.Core.Logic.{inl, inr, ⊎-elim}
 use Prim.Native.Nat.{ℕ, zero, suc, _+_, _-_, _*_, _/_, _%_, _<_, _≤_}
 use native.Mathlib.Nat.{not-suc-le-zero, mod-lt, div-lt-iff-lt-mul, div-add-mod', div-mul-le-self, zero-div, zero-mod, zero-mul, mul-pos}
-use native.Mathlib.Numerals.{sub-one}
 use native.Mathlib.Omega.{arith}
 use lib.Arith.{digits-lt, digits-div, digits-mod}
 use borrow.Author.Tests.{lt-ltb, le-ltb, eq-eqb, ne-eqb}
-use Rattle.common.specs.Digits.{Below}
 use Rattle.turn.specs.Order.{factorial, skip, unskip, axis, place, largest, order, sorted, Before, Earlier}
 use Rattle.common.proofs.Cases.{by-lt, by-eq, by-last}
 

@@ -9,7 +9,7 @@ use lib.Dec.{eqb}
 use lib.IntN.{ℤ, pos, negsuc, natAbs, negℤ, _+ℤ_, _*ℤ_, negℤ-+ℤ, pos-*ℤ-negsuc}
 use lib.ListN.{length, getD}
 use borrow.Author.Tests.{lt-ltb, eq-eqb}
-use Rattle.common.specs.Digits.{number, digit}
+use Rattle.common.specs.Digits.{number}
 use Rattle.common.specs.Refusals.{Shape}
 use Rattle.common.specs.Lists.{tabulate}
 use Rattle.common.proofs.Cases.{inside}
@@ -20,6 +20,11 @@ use Rattle.turn.specs.Order.{axis, order, sorted}
 use Rattle.turn.specs.Vectors.{sizes, sign, case, near, references, entry, reference}
 use Rattle.turn.specs.Turned.{reversed, negative, axisOf, turned, returned}
 use Rattle.turn.specs.Tables.{cases, tableNumber, tableCall}
+use Rattle.turn.specs.declared.Vector.{Vector}
+use Rattle.turn.specs.declared.Entry.{Entry}
+use Rattle.turn.specs.declared.LookUp.the-variants as look
+use Rattle.turn.specs.declared.Reference.the-variants as refer
+use Rattle.turn.specs.LookUps.{entries, lookUp, lookUpNumber, lookedUp, entryOf, referenceCall, referenceNumber, referenceAt, referred}
 use Rattle.turn.specs.Turns.{Far, Mirrored, distance, Turns, Matches, TurnIsRight}
 use Rattle.turn.proofs.Orders.{order-below}
 use Rattle.turn.proofs.References.{reference-below, reference-entry, reference-matches, reference-only, near-none}
@@ -140,6 +145,42 @@ pub right-in-memory : (D p : ℕ) (v : ℕ → ℤ) → Shape D p → Far D (siz
 right-in-memory D p v ok far t u et eu =
     right-alike D p v (ok .order-least) far _ _
     (filled D p (case D v) _ t ok (case-below D v) et) (filled D p (case D v) _ u ok (case-below D v) eu)
+
+-- THE FOUR CALLS: whatever they answer and leave for a far vector is right, with the reference vector that is asked for by its number
+
+looked-up : (n : ℕ) (known e : Entry) → lookedUp n known ≡ look.Found e → e ≡ known
+looked-up zero known e h = cc
+looked-up (suc n) known e h = let z : _≡_ {A = ℕ} 0 1 = cc in absurd (omega arith)
+
+referred-to : (n : ℕ) (known r : Vector) → referred n known ≡ refer.Found r → r ≡ known
+referred-to zero known r h = cc
+referred-to (suc n) known r h = let z : _≡_ {A = ℕ} 0 1 = cc in absurd (omega arith)
+
+-- the entries of a reference vector
+reference-entries : (D i m : ℕ) → D ≤ 3 → m < D → natAbs (entries (referenceAt D i) m) ≡ entry D i m
+unfolding referenceAt
+reference-entries D i zero h l = rw (lt-ltb 0 D l)
+reference-entries D i (suc zero) h l = rw (lt-ltb 1 D l)
+reference-entries D i (suc (suc zero)) h l = rw (lt-ltb 2 D l)
+reference-entries D i (suc (suc (suc m))) h l = absurd (omega arith)
+
+pub calls-are-right : (D p : ℕ) (v r : Vector) (e : Entry) (table inverse table' inverse' : List ℕ) → Shape D p → Far D (sizes (entries v)) →
+    length table ≡ p ^ D → length inverse ≡ p ^ D →
+    lookUp D v ≡ look.Found e → referenceCall D (e .reference) ≡ refer.Found r →
+    tableCall D p (e .case) (turned D p (e .case)) table ≡ (0, table') → tableCall D p (e .case) (returned D p (e .case)) inverse ≡ (0, inverse') →
+    Turns D p (λ m. natAbs (entries r m)) (entries v) (λ n. getD table' n 0) (λ n. getD inverse' n 0)
+unfolding lookUp entryOf referenceCall
+calls-are-right D p v r e table inverse table' inverse' ok far lt lu he hr ht hu =
+    let w = entries v in
+    let known : e ≡ entryOf D w = looked-up (lookUpNumber D (sizes w)) (entryOf D w) e he in
+    let k : e .case ≡ case D w = ap (λ (x : Entry). x .case) known in
+    let i : e .reference ≡ reference D w = ap (λ (x : Entry). x .reference) known in
+    let found : r ≡ referenceAt D (reference D w) = referred-to (referenceNumber D (reference D w)) (referenceAt D (reference D w)) r (rw i at hr) in
+    turns-alike D p (sorted D (sizes w)) (λ m. natAbs (entries r m)) w (turned D p (case D w)) (returned D p (case D w)) _ _
+    (λ m l. rw found (reference-entries D (reference D w) m (ok .dimension-most) l ∙ reference-entry D w far m l))
+    (λ n b. ap (λ (x : ℕ × List ℕ). getD (x .1) n 0) (sym (rw k at ht)) ∙ filled D p (case D w) _ table ok (case-below D w) lt n b)
+    (λ n b. ap (λ (x : ℕ × List ℕ). getD (x .1) n 0) (sym (rw k at hu)) ∙ filled D p (case D w) _ inverse ok (case-below D w) lu n b)
+    (λ n _. returned-below D p (case D w) (ok .order-least) n) (turns D p w (ok .order-least))
 
 -- NEAR VECTORS: `turns` holds of them, and no reference has their sorted sizes
 pub near-has-none : (D : ℕ) (v : ℕ → ℤ) → 0 < D → near D v ≡ true → (i : ℕ) → i < length (references D) → Matches D v i → ⊥

@@ -11,7 +11,7 @@ use Rattle.common.specs.Lists.{stores}
 use Rattle.turn.specs.declared.Three.{Three}
 use Rattle.turn.specs.declared.Steps.{Steps}
 use Rattle.turn.specs.Vectors.{atMost, farReference}
-use Rattle.turn.specs.Turned.{negative, axisOf, turned}
+use Rattle.turn.specs.Turned.{negative, axisOf, turned, returned}
 
 -- LOOKING UP: an entry is held as a digit, three more than it is
 
@@ -97,6 +97,11 @@ stepsOf D p k =
 -- i steps from a start, modulo 2^64
 unfoldable pub stepped : (start step i : ℕ) → ℕ
 stepped start step i = (start + i * step) % 2 ^ 64
+
+-- where a node goes; for the inverse, which node comes there
+abbrev pub entryOf : (inverse : Bool) → (D p case n : ℕ) → ℕ
+entryOf false D p k = turned D p k
+entryOf true D p k = returned D p k
 
 -- each image stored at its node's place; for the inverse, each node at its image's place
 unfoldable pub stored : (inverse : Bool) → (node image : ℕ → ℕ) → ℕ → List ℕ → List ℕ

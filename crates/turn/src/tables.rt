@@ -1,13 +1,13 @@
 // The tables that turn a block: where each node of the reference block goes, and back.
 ghost use mathlib.Core.Path.{_≡_};
-ghost use Prim.Native.Nat.{ℕ, _+_, _-_, _*_, _^_, _<_, _≤_};
+ghost use Prim.Native.Nat.{_+_, _-_, _*_, _^_, _<_, _≤_};
 ghost use lib.ListN.{length};
 ghost use Rattle.common.specs.Lists.{stores};
 ghost use Rattle.common.specs.Refusals.{Shape};
 ghost use Rattle.turn.specs.Order.{factorial, axis};
 ghost use Rattle.turn.specs.Turned.{reversed, negative, turned, returned};
 ghost use Rattle.turn.specs.Tables.{tableNumber, tableCall};
-ghost use Rattle.turn.specs.Working.{stepOf, stepsOf, stepped, stored, Runs};
+ghost use Rattle.turn.specs.Working.{stepOf, stepsOf, stepped, stored, entryOf, Runs};
 use crate::Steps;
 use crate::factorial_of;
 
@@ -170,24 +170,28 @@ fn table_number(dimension: usize, order: usize, case: usize, size: usize) -> u8
     0
 }
 
-pub fn combined_permutation(dimension: usize, order: usize, case: usize, table: &mut [u16]) -> u8
-    ensures { λ r. ⌜ (r, now (table .exit)) ≡ tableCall dimension order case (turned dimension order case) (now (table .entry)) ⌝ }
+// The table of a case, or its inverse.
+fn permutation(inverse: bool, dimension: usize, order: usize, case: usize, table: &mut [u16]) -> u8
+    ensures { λ r. ⌜ (r, now (table .exit)) ≡ tableCall dimension order case (entryOf inverse dimension order case) (now (table .entry)) ⌝ }
 {
     let refused = table_number(dimension, order, case, table.len());
     if refused != 0 {
         return refused;
     }
-    fill(false, dimension, order, case, table);
+    fill(inverse, dimension, order, case, table);
     0
 }
 
+// Where each node of the reference block goes, for one case.
+pub fn combined_permutation(dimension: usize, order: usize, case: usize, table: &mut [u16]) -> u8
+    ensures { λ r. ⌜ (r, now (table .exit)) ≡ tableCall dimension order case (turned dimension order case) (now (table .entry)) ⌝ }
+{
+    permutation(false, dimension, order, case, table)
+}
+
+// Which node of the reference block comes to each node, for one case.
 pub fn inverse_permutation(dimension: usize, order: usize, case: usize, table: &mut [u16]) -> u8
     ensures { λ r. ⌜ (r, now (table .exit)) ≡ tableCall dimension order case (returned dimension order case) (now (table .entry)) ⌝ }
 {
-    let refused = table_number(dimension, order, case, table.len());
-    if refused != 0 {
-        return refused;
-    }
-    fill(true, dimension, order, case, table);
-    0
+    permutation(true, dimension, order, case, table)
 }

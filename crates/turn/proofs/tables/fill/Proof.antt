@@ -1,11 +1,10 @@
 -- `turn::tables::fill` meets its contract. The loop keeps `Walked`: the nodes before this row are stored, and the row's image is at hand.
 -- The measure is the nodes that are left. Assumes nothing.
-use mathlib.Core.Path.{_≡_, sym, _∙_}
-use Prim.Native.Nat.{_+_, _-_, _^_, _<_, _≤_}
+use mathlib.Core.Path.{_≡_, _∙_}
+use Prim.Native.Nat.{_-_, _^_, _<_}
 use native.Mathlib.Omega.{arith}
 use borrow.Author.Needs.{needs}
 use lib.ListN.{length}
-use Rattle.common.proofs.Limits.{power-most}
 use Rattle.turn.specs.Working.{Runs}
 use Rattle.turn.proofs.Walks.{Walked, walked-none, walked-runs, walked-row, walked-plane}
 use Rattle.turn.proofs.tables.fill.Statement.{statement}

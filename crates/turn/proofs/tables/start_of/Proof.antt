@@ -1,7 +1,6 @@
 -- `turn::tables::start_of` meets its contract. The loop keeps: the start is the number of the image's indices so far. Assumes nothing.
-use mathlib.Core.Path.{_≡_, refl, sym}
+use mathlib.Core.Path.{_≡_, refl}
 use Prim.Native.Nat.{_+_, _-_, _*_, _≤_}
-use native.Mathlib.Nat.{mul-le-mul}
 use native.Mathlib.Omega.{arith}
 use borrow.Author.Needs.{needs}
 use Rattle.common.specs.Digits.{number}

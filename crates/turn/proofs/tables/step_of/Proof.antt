@@ -1,5 +1,4 @@
 -- `turn::tables::step_of` meets its contract: the weight of the axis, up or down. Assumes nothing.
-use mathlib.Core.Path.{_≡_}
 use Prim.Native.Nat.{_<_, _≤_}
 use native.Mathlib.Nat.{mod-lt, one-le-pow}
 use native.Mathlib.Omega.{arith}

@@ -1,5 +1,5 @@
 -- `turn::vectors::digits_number` meets its contract: the lowest of the digits' numbers. Assumes nothing.
-use mathlib.Core.Path.{_≡_, _∙_}
+use mathlib.Core.Path.{_∙_}
 use native.Mathlib.Omega.{arith}
 use borrow.Author.Needs.{needs}
 use Rattle.turn.specs.Working.{three}

@@ -1,8 +1,8 @@
 -- `turn::vectors::entry_of` meets its contract: field by field. Assumes nothing.
-use mathlib.Core.Path.{_≡_, _∙_}
+use mathlib.Core.Path.{_≡_}
 use native.Mathlib.Omega.{arith}
 use borrow.Author.Needs.{needs}
-use Rattle.turn.specs.Working.{eachOf, sizeOf, Small, Past}
+use Rattle.turn.specs.Working.{eachOf, sizeOf}
 use Rattle.turn.proofs.Sizes.{near-by}
 use Rattle.turn.proofs.Held.{sizes-small, sizes-past, entry-held}
 use Rattle.turn.proofs.vectors.entry_of.Statement.{statement}

@@ -4,11 +4,38 @@ use mathlib.Core.Bool.{Bool, cond}
 use lib.Dec.{eqb}
 use Rattle.common.specs.Tests.{within}
 
+-- THE NUMBERS that a caller may meet; 0 is done
+
+-- the dimension is not 1, 2 or 3
+abbrev pub noDimension : ℕ
+noDimension = 1
+
+-- the order is not 1 to 16
+abbrev pub noOrder : ℕ
+noOrder = 2
+
+-- one of a vector's first D entries is outside -3 to 3
+abbrev pub noEntry : ℕ
+noEntry = 4
+
+-- a case or a reference number is not below how many there are
+abbrev pub noCase : ℕ
+noCase = 5
+
+-- an entry past a vector's first D is not 0
+abbrev pub notZero : ℕ
+notZero = 6
+
+-- a lent buffer's length is not exactly the stated one
+abbrev pub wrongLength : ℕ
+wrongLength = 7
+
 -- The number n unless the test holds, and then what is left to say. Calls test from the lowest number up, so the lowest wins.
 abbrev pub unless : Bool → ℕ → ℕ → ℕ
 unless holds n rest = cond holds rest n
 
--- a dimension is 1, 2 or 3; an order is 1 to 16
+-- THE LIMITS
+
 abbrev pub isDimension : ℕ → Bool
 isDimension D = within 1 3 D
 
@@ -21,9 +48,9 @@ pub record Shape (D p : ℕ) : Type 0 where
   pub order-least : 1 ≤ p
   pub order-most : p ≤ 16
 
--- 1 for a dimension, 2 for an order outside its limits
+-- the number that a dimension and an order bring
 unfoldable pub shapeNumber : (D p : ℕ) → ℕ
-shapeNumber D p = unless (isDimension D) 1 (unless (isOrder p) 2 0)
+shapeNumber D p = unless (isDimension D) noDimension (unless (isOrder p) noOrder 0)
 
 module _ {A : Type 0} where
   -- what a call with this number leaves in a lent buffer: its result if the number is 0, else the buffer as it came

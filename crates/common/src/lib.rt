@@ -3,21 +3,34 @@ ghost use mathlib.Core.Path.{_≡_};
 ghost use Prim.Native.Nat.{_^_, _≤_};
 ghost use Rattle.common.specs.Refusals.{shapeNumber};
 
+// The numbers with which calls refuse; 0 is done.
+pub const NO_DIMENSION: u8 = 1;
+
+pub const NO_ORDER: u8 = 2;
+
+pub const NO_ENTRY: u8 = 4;
+
+pub const NO_CASE: u8 = 5;
+
+pub const NOT_ZERO: u8 = 6;
+
+pub const WRONG_LENGTH: u8 = 7;
+
 // The lowest refusal that a dimension and an order bring, or 0.
 pub fn shape_number(dimension: usize, order: usize) -> u8
     ensures { λ r. ⌜ r ≡ shapeNumber dimension order ⌝ }
 {
     if dimension < 1 {
-        return 1;
+        return NO_DIMENSION;
     }
     if 3 < dimension {
-        return 1;
+        return NO_DIMENSION;
     }
     if order < 1 {
-        return 2;
+        return NO_ORDER;
     }
     if 16 < order {
-        return 2;
+        return NO_ORDER;
     }
     0
 }

@@ -14,7 +14,7 @@ use Rattle.common.proofs.Limits.{shape-taken, left-done, left-refused}
 use Rattle.common.proofs.Stores.{stores-all}
 use Rattle.turn.specs.Turned.{turned, returned}
 use Rattle.turn.specs.Tables.{cases, tableNumber, tableCall}
-use Rattle.turn.specs.Working.{stored, entryOf}
+use Rattle.turn.specs.Working.{stored, tableEntry}
 use Rattle.turn.proofs.Nodes.{turned-below, returned-below, returned-turned, turned-returned}
 
 -- THE NUMBER, by the tests that lead to it
@@ -70,7 +70,7 @@ accepted D p k n =
 
 -- what the walk stores is the table, or its inverse
 pub walked-table : (inverse : Bool) (D p k : ℕ) (l : List ℕ) → Accepted D p (length l) →
-    stored inverse (λ n. n) (turned D p k) (p ^ D) l ≡ tabulate (p ^ D) (entryOf inverse D p k)
+    stored inverse (λ n. n) (turned D p k) (p ^ D) l ≡ tabulate (p ^ D) (tableEntry inverse D p k)
 unfolding stored
 walked-table false D p k l ok =
     stores-all (p ^ D) (λ n. n) (λ n. n) (turned D p k) 0 l

@@ -6,7 +6,7 @@ use mathlib.Core.List.{List}
 use lib.Dec.{leb, ltb, eqb}
 use lib.IntN.{ℤ, pos, natAbs, _+ℤ_, _-ℤ_}
 use Rattle.common.specs.Tests.{each}
-use Rattle.common.specs.Refusals.{unless, isDimension}
+use Rattle.common.specs.Refusals.{noDimension, noEntry, notZero, unless, isDimension}
 use Rattle.common.specs.Lists.{stores}
 use Rattle.turn.specs.declared.Three.{Three}
 use Rattle.turn.specs.declared.Steps.{Steps}
@@ -50,11 +50,11 @@ eachOf f t = (f (t .0), f (t .1), f (t .2))
 -- the refusal that a vector's digits bring: 7 is no entry, and past the dimension only 3 is
 unfoldable pub digitsNumber : (D : ℕ) → (ℕ → ℕ) → ℕ
 digitsNumber D d =
-    unless (isDimension D) 1 (unless (each D (λ a. ltb (d a) 7)) 4 (unless (each (3 - D) (λ a. eqb (d (D + a)) 3)) 6 0))
+    unless (isDimension D) noDimension (unless (each D (λ a. ltb (d a) 7)) noEntry (unless (each (3 - D) (λ a. eqb (d (D + a)) 3)) notZero 0))
 
 -- what one digit brings, of an axis past the dimension or not; and the lower of two numbers, 0 being none
 unfoldable pub digitNumber : (past : Bool) → ℕ → ℕ
-digitNumber past d = cond past (unless (eqb d 3) 6 0) (unless (ltb d 7) 4 0)
+digitNumber past d = cond past (unless (eqb d 3) notZero 0) (unless (ltb d 7) noEntry 0)
 
 unfoldable pub lower : ℕ → ℕ → ℕ
 lower a b = cond (eqb a 0) b (cond (eqb b 0) a (min a b))
@@ -99,9 +99,9 @@ unfoldable pub stepped : (start step i : ℕ) → ℕ
 stepped start step i = (start + i * step) % 2 ^ 64
 
 -- where a node goes; for the inverse, which node comes there
-abbrev pub entryOf : (inverse : Bool) → (D p case n : ℕ) → ℕ
-entryOf false D p k = turned D p k
-entryOf true D p k = returned D p k
+abbrev pub tableEntry : (inverse : Bool) → (D p case n : ℕ) → ℕ
+tableEntry false D p k = turned D p k
+tableEntry true D p k = returned D p k
 
 -- each image stored at its node's place; for the inverse, each node at its image's place
 unfoldable pub stored : (inverse : Bool) → (node image : ℕ → ℕ) → ℕ → List ℕ → List ℕ

@@ -199,11 +199,11 @@ fn digit_number(is_past: bool, d: usize) -> u8
     ensures { λ r. ⌜ r ≡ digitNumber «is_past» d ⌝ }
 {
     if is_past {
-        if d == 3 { 0 } else { 6 }
+        if d == 3 { 0 } else { common::NOT_ZERO }
     } else if d < 7 {
         0
     } else {
-        4
+        common::NO_ENTRY
     }
 }
 
@@ -226,10 +226,10 @@ fn digits_number(dimension: usize, d: Three) -> u8
     ensures { λ r. ⌜ r ≡ digitsNumber dimension (three d) ⌝ }
 {
     if dimension < 1 {
-        return 1;
+        return common::NO_DIMENSION;
     }
     if 3 < dimension {
-        return 1;
+        return common::NO_DIMENSION;
     }
     let rest = lower_of(
         digit_number(dimension < 2, d.1),
@@ -238,6 +238,7 @@ fn digits_number(dimension: usize, d: Three) -> u8
     lower_of(digit_number(false, d.0), rest)
 }
 
+// What is known of a vector: its index, its case, its reference and whether it is near.
 pub fn look_up(dimension: usize, vector: Vector) -> LookUp
     ensures { λ r. ⌜ r ≡ lookUp dimension vector ⌝ }
 {
@@ -249,6 +250,7 @@ pub fn look_up(dimension: usize, vector: Vector) -> LookUp
     LookUp::Found(entry_of(dimension, d))
 }
 
+// The reference vector with that number.
 pub fn reference_vector(dimension: usize, number: usize) -> Reference
     ensures { λ r. ⌜ r ≡ referenceCall dimension number ⌝ }
 {
@@ -256,19 +258,19 @@ pub fn reference_vector(dimension: usize, number: usize) -> Reference
         if number < 2 {
             return Reference::Found(REFERENCES_1[number]);
         }
-        return Reference::Refused(5);
+        return Reference::Refused(common::NO_CASE);
     }
     if dimension == 2 {
         if number < 7 {
             return Reference::Found(REFERENCES_2[number]);
         }
-        return Reference::Refused(5);
+        return Reference::Refused(common::NO_CASE);
     }
     if dimension == 3 {
         if number < 16 {
             return Reference::Found(REFERENCES_3[number]);
         }
-        return Reference::Refused(5);
+        return Reference::Refused(common::NO_CASE);
     }
-    Reference::Refused(1)
+    Reference::Refused(common::NO_DIMENSION)
 }

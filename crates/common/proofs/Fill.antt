@@ -1,11 +1,17 @@
--- The length and the entries of a tabulated list. Assumes nothing.
-use mathlib.Core.Path.{_≡_, refl, ap}
-use Prim.Native.Nat.{ℕ, zero, suc, _<_}
-use native.Mathlib.Nat.{not-suc-le-zero, le-of-suc-le-suc}
-use lib.ListN.{length, getD}
-use Rattle.common.specs.Lists.{tabulate}
+-- Tabulated lists, and a loop that fills a stretch of a list: after m turns it is `stretch n m f`, and all the rest is kept. Assumes nothing.
+use mathlib.Core.Path.{_≡_, refl, sym, ap, _∙_}
+use mathlib.Core.List.{List, [], _∷_, _++_, append-nil, append-assoc}
+use Prim.Native.Nat.{ℕ, zero, suc, _+_, _-_, _<_, _≤_}
+use native.Mathlib.Nat.{not-suc-le-zero, le-of-suc-le-suc, zero-add, suc-add, add-zero, add-assoc}
+use native.Mathlib.Omega.{arith}
+use lib.ListN.{length, set, take, drop, getD, length-append, length-drop, length-set, List·getD-append, take-append-drop}
+use lib.Seq.{length-take-le, drop-cons, drop-length, set-at, take-at, drop-at, drop-drop, getD-take}
+use borrow.Rule.Slice.PartMut.{putMid, post-is}
+use Rattle.common.specs.Lists.{tabulate, stretch}
 
 module _ {A : Type 0} where
+  -- TABULATED LISTS
+
   pub length-tabulate : (n : ℕ) (f : ℕ → A) → length (tabulate n f) ≡ n
   length-tabulate zero f = refl
   length-tabulate (suc n) f = ap suc (length-tabulate n (λ k. f (suc k)))
@@ -14,3 +20,96 @@ module _ {A : Type 0} where
   getD-tabulate zero f i d h = absurd (not-suc-le-zero h)
   getD-tabulate (suc n) f zero d h = refl
   getD-tabulate (suc n) f (suc i) d h = getD-tabulate n (λ k. f (suc k)) i d (le-of-suc-le-suc h)
+
+  pub tabulate-cong : (n : ℕ) (f g : ℕ → A) → ((i : ℕ) → i < n → f i ≡ g i) → tabulate n f ≡ tabulate n g
+  tabulate-cong zero f g h = refl
+  tabulate-cong (suc n) f g h =
+      let first : f zero ≡ g zero = h zero (omega arith) in
+      let later : tabulate n (λ k. f (suc k)) ≡ tabulate n (λ k. g (suc k)) =
+      tabulate-cong n (λ k. f (suc k)) (λ k. g (suc k)) (λ i l. h (suc i) (omega arith)) in
+      rw (first, later)
+
+  -- n of them, and then m more
+  tabulate-add : (n m : ℕ) (f : ℕ → A) → tabulate (n + m) f ≡ tabulate n f ++ tabulate m (λ i. f (n + i))
+  tabulate-add zero m f = rw zero-add (tabulate-cong m f (λ i. f (0 + i)) (λ i l. ap f (sym (zero-add i))))
+  tabulate-add (suc n) m f =
+      let later : tabulate (n + m) (λ k. f (suc k)) ≡ tabulate n (λ k. f (suc k)) ++ tabulate m (λ i. f (suc (n + i))) = tabulate-add n m (λ k. f (suc k)) in
+      let same : tabulate m (λ i. f (suc (n + i))) ≡ tabulate m (λ i. f (suc n + i)) =
+      tabulate-cong m (λ i. f (suc (n + i))) (λ i. f (suc n + i)) (λ i l. ap f (sym (suc-add n i))) in
+      rw suc-add (ap (λ (t : List A). f zero ∷ t) (rw (sym same) later))
+
+  tabulate-last : (n : ℕ) (f : ℕ → A) → tabulate (n + 1) f ≡ tabulate n f ++ f n ∷ []
+  tabulate-last n f = tabulate-add n 1 f ∙ ap (λ (k : ℕ). tabulate n f ++ f k ∷ []) (add-zero n)
+
+  -- A STRETCH
+
+  module _ (n : ℕ) (f : ℕ → A) (l : List A) where
+    pub stretch-none : stretch n 0 f l ≡ l
+    stretch-none = rw (add-zero n) (take-append-drop n l)
+
+    head-length : (m : ℕ) → n + m ≤ length l → length (take n l ++ tabulate m f) ≡ n + m
+    head-length m h = let t : n ≤ length l = omega arith in rw (length-append, length-take-le n l t, length-tabulate)
+
+    pub stretch-length : (m : ℕ) → n + m ≤ length l → length (stretch n m f l) ≡ length l
+    stretch-length m h = rw (← append-assoc, length-append, head-length m h, length-drop) (omega arith)
+
+    -- one more turn of a loop that stores f m
+    pub stretch-more : (m : ℕ) (d v : A) → n + m < length l → v ≡ f m → set (stretch n m f l) (n + m) v ≡ stretch n (m + 1) f l
+    stretch-more m d v h e =
+        let next : n + (m + 1) ≡ suc (n + m) = omega arith in
+        rw (e, ← append-assoc, drop-cons l (n + m) d h, set-at (take n l ++ tabulate m f) (getD l (n + m) d) (drop (suc (n + m)) l) (f m) (n + m) (head-length m (omega arith)))
+        (rw (tabulate-last m f, next, append-assoc, append-assoc))
+
+    -- what stands before it
+    pub stretch-before : (m k : ℕ) (d : A) → k < n → n ≤ length l → getD (stretch n m f l) k d ≡ getD l k d
+    stretch-before m k d h b =
+        let long : k < length (take n l) = rw (length-take-le n l b) h in
+        List·getD-append (take n l) (tabulate m f ++ drop (n + m) l) d k long ∙ getD-take n l k d h
+
+    -- a call that was lent this part has left f 0, f 1, .. there
+    pub stretch-part : (m : ℕ) (part : List A) → n + m ≤ length l → part ≡ tabulate m f → putMid n (n + m - n) l part ≡ stretch n m f l
+    stretch-part m part h e = ap (λ (t : List A). take n l ++ (part ++ t)) (post-is n (n + m) l (omega arith)) ∙ rw e
+
+  -- what a loop that stores f i at n + i, for i below m, keeps after i turns
+  pub record Filling (n m : ℕ) (f : ℕ → A) (before now : List A) (i : ℕ) : Type 0 where
+    pub most : i ≤ m
+    pub long : length now ≡ length before
+    pub made : now ≡ stretch n i f before
+
+  module _ (n m : ℕ) (f : ℕ → A) (before : List A) where
+    pub filling-none : Filling n m f before before 0
+    filling-none = record { most = omega arith; long = refl; made = sym (stretch-none n f before) }
+
+    pub filling-more : (now : List A) (i at : ℕ) (d v : A) → Filling n m f before now i → i < m → n + m ≤ length before → at ≡ n + i → v ≡ f i →
+        Filling n m f before (set now at v) (i + 1)
+    filling-more now i at d v h l fits a e =
+        record {
+          most = omega arith;
+          long = length-set now at v ∙ h .long;
+          made = rw (h .made, a) (stretch-more n f before i d v (omega arith) e);
+        }
+
+    pub filling-done : (now : List A) (i : ℕ) → Filling n m f before now i → m ≤ i → now ≡ stretch n m f before
+    filling-done now i h l = let all : i ≡ m = omega (arith, h .most) in rw all at (h .made)
+
+  -- FILLING FROM THE FRONT
+
+  -- the whole list is filled
+  pub fill-all : (n : ℕ) (f : ℕ → A) (l : List A) → length l ≡ n → stretch 0 n f l ≡ tabulate n f
+  fill-all n f l h = rw (zero-add n, ← h, drop-length, append-nil)
+
+  -- what an earlier turn stored
+  pub fill-read : (n : ℕ) (f : ℕ → A) (l : List A) (k : ℕ) (d : A) → k < n → getD (stretch 0 n f l) k d ≡ f k
+  fill-read n f l k d h =
+      let long : k < length (tabulate n f) = rw length-tabulate h in
+      List·getD-append (tabulate n f) (drop (0 + n) l) d k long ∙ getD-tabulate n f k d h
+
+  -- the next stretch goes on where the last ended
+  pub fill-on : (n m : ℕ) (f g : ℕ → A) (l : List A) → ((i : ℕ) → i < m → g i ≡ f (n + i)) → n + m ≤ length l →
+      stretch n m g (stretch 0 n f l) ≡ stretch 0 (n + m) f l
+  fill-on n m f g l same h =
+      let front : take n (stretch 0 n f l) ≡ tabulate n f = take-at (tabulate n f) (drop (0 + n) l) n (length-tabulate n f) in
+      let past : drop (n + m) (stretch 0 n f l) ≡ drop (0 + (n + m)) l =
+      sym (drop-drop m n (stretch 0 n f l)) ∙ ap (drop m) (drop-at (tabulate n f) (drop (0 + n) l) n (length-tabulate n f)) ∙
+      drop-drop m (0 + n) l ∙ ap (λ (k : ℕ). drop k l) (add-assoc 0 n m) in
+      rw (front, past, tabulate-cong m g (λ i. f (n + i)) same, tabulate-add n m f, append-assoc)

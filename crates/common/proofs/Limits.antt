@@ -4,24 +4,27 @@ use Prim.Native.Nat.{ℕ, _^_, _≤_}
 use native.Mathlib.Nat.{le-trans, pow-le-pow-left, pow-le-pow-right}
 use native.Mathlib.Omega.{arith}
 use borrow.Author.Tests.{eq-eqb, ne-eqb}
-use Rattle.common.specs.Refusals.{isDimension, isOrder, Shape, shapeNumber, left}
+use Rattle.common.specs.Refusals.{isDimension, isOrder, Shape, orderNumber, shapeNumber, left}
 use Rattle.common.proofs.Cases.{by-bool, inside-low, inside-high}
 
 pub power-most : (p n : ℕ) → p ≤ 16 → n ≤ 3 → p ^ n ≤ 4096
 power-most p n hp hn = le-trans (pow-le-pow-left hp n) (pow-le-pow-right {n = 16} (omega arith) hn)
 
+-- an order that is not refused
+pub order-taken : (p : ℕ) → orderNumber p ≡ 0 → (1 ≤ p) × (p ≤ 16)
+unfolding orderNumber
+order-taken p = by-bool (isOrder p) (λ e _. (inside-low 1 16 p e, inside-high 1 16 p e)) (λ e. rw e λ z. absurd (omega arith))
+
 pub shape-taken : (D p : ℕ) → shapeNumber D p ≡ 0 → Shape D p
 unfolding shapeNumber
 shape-taken D p =
     by-bool (isDimension D)
-    (λ e. rw e (by-bool (isOrder p)
-    (λ e' _. record {
+    (λ e. rw e λ z. record {
       dimension-least = inside-low 1 3 D e;
       dimension-most = inside-high 1 3 D e;
-      order-least = inside-low 1 16 p e';
-      order-most = inside-high 1 16 p e';
+      order-least = order-taken p z .0;
+      order-most = order-taken p z .1;
     })
-    (λ e'. rw e' λ z. absurd (omega arith))))
     (λ e. rw e λ z. absurd (omega arith))
 
 module _ {A : Type 0} where

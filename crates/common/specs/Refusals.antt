@@ -14,6 +14,10 @@ noDimension = 1
 abbrev pub noOrder : ℕ
 noOrder = 2
 
+-- a count is out of range
+abbrev pub noCount : ℕ
+noCount = 3
+
 -- one of a vector's first D entries is outside -3 to 3
 abbrev pub noEntry : ℕ
 noEntry = 4
@@ -48,9 +52,12 @@ pub record Shape (D p : ℕ) : Type 0 where
   pub order-least : 1 ≤ p
   pub order-most : p ≤ 16
 
--- the number that a dimension and an order bring
+-- the number that an order brings, and that a dimension and an order bring
+unfoldable pub orderNumber : (p : ℕ) → ℕ
+orderNumber p = unless (isOrder p) noOrder 0
+
 unfoldable pub shapeNumber : (D p : ℕ) → ℕ
-shapeNumber D p = unless (isDimension D) noDimension (unless (isOrder p) noOrder 0)
+shapeNumber D p = unless (isDimension D) noDimension (orderNumber p)
 
 module _ {A : Type 0} where
   -- what a call with this number leaves in a lent buffer: its result if the number is 0, else the buffer as it came

@@ -8,7 +8,7 @@ use lib.Dec.{ltb, eqb}
 use lib.ListN.{length}
 use borrow.Author.Tests.{eqb-true, lt-ltb, le-ltb, eq-eqb, ne-eqb}
 use Rattle.common.specs.Lists.{tabulate, stores}
-use Rattle.common.specs.Refusals.{isDimension, isOrder, Shape, shapeNumber}
+use Rattle.common.specs.Refusals.{isDimension, isOrder, Shape, orderNumber, shapeNumber}
 use Rattle.common.proofs.Cases.{by-bool}
 use Rattle.common.proofs.Limits.{shape-taken, left-done, left-refused}
 use Rattle.common.proofs.Stores.{stores-all}
@@ -21,7 +21,7 @@ use Rattle.turn.proofs.Nodes.{turned-below, returned-below, returned-tu
 
 module _ (D p k n : ℕ) where
   pub number-shape : (shapeNumber D p ≡ 0 → ⊥) → shapeNumber D p ≡ tableNumber D p k n
-  unfolding shapeNumber tableNumber
+  unfolding shapeNumber orderNumber tableNumber
   number-shape =
       by-bool (isDimension D)
       (λ e. rw e (by-bool (isOrder p) (λ e'. rw e' λ z. absurd (z refl)) (λ e'. rw e' λ _. refl)))
@@ -29,7 +29,7 @@ module _ (D p k n : ℕ) where
 
   -- the shape is right, and so the dimension and the order are
   number-past : shapeNumber D p ≡ 0 → (isDimension D ≡ true) × (isOrder p ≡ true)
-  unfolding shapeNumber
+  unfolding shapeNumber orderNumber
   number-past =
       by-bool (isDimension D)
       (λ e. rw e (by-bool (isOrder p) (λ e' _. (refl, e')) (λ e'. rw e' λ z. absurd (omega arith))))
@@ -54,7 +54,7 @@ pub record Accepted (D p n : ℕ) : Type 0 where
   pub whole : n ≡ p ^ D
 
 pub accepted : (D p k n : ℕ) → tableNumber D p k n ≡ 0 → Accepted D p n
-unfolding tableNumber shapeNumber
+unfolding tableNumber shapeNumber orderNumber
 accepted D p k n =
     by-bool (isDimension D)
     (λ e1. rw e1 (by-bool (isOrder p)

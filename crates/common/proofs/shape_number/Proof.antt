@@ -1,5 +1,6 @@
 -- `common::shape_number` meets its contract: each return by the tests that led there. Assumes nothing.
-use native.Mathlib.Omega.{arith}
+use mathlib.Core.Path.{_∙_}
+use borrow.Author.Needs.{needs}
 use borrow.Author.Tests.{lt-leb, le-leb}
 use Rattle.common.specs.Refusals.{shapeNumber}
 use Rattle.common.proofs.Cases.{inside}
@@ -16,23 +17,12 @@ returns-2 c =
     let d = c .before .before .args .dimension in
     rw (le-leb 1 d (c .before .if1 .left), lt-leb d 3 (c .if2 .taken))
 
+order-number-requires : tie.Need-order-number-requires
+order-number-requires c κs = search needs
+
 returns-3 : tie.Need-returns-3
 unfolding shapeNumber
-returns-3 c =
-    let a = c .before .before .before .args in
-    rw (inside 1 3 (a .dimension) (omega arith) (omega arith), lt-leb 1 (a .order) (c .if3 .taken))
-
-returns-4 : tie.Need-returns-4
-unfolding shapeNumber
-returns-4 c =
-    let a = c .before .before .before .before .args in
-    rw (inside 1 3 (a .dimension) (omega arith) (omega arith), le-leb 1 (a .order) (omega arith), lt-leb (a .order) 16 (c .if4 .taken))
-
-returns-5 : tie.Need-returns-5
-unfolding shapeNumber
-returns-5 c =
-    let a = c .before .before .before .before .args in
-    rw (inside 1 3 (a .dimension) (omega arith) (omega arith), inside 1 16 (a .order) (omega arith) (omega arith))
+returns-3 c = rw (inside 1 3 (c .before .before .before .args .dimension) (c .before .before .if1 .left) (c .before .if2 .left)) (c .order-number .ensures)
 
 pub shape-number-spec : {M : Type 1} → statement M
-shape-number-spec = tie.close (tie.spec returns returns-2 returns-3 returns-4 returns-5)
+shape-number-spec = tie.close (tie.spec returns returns-2 order-number-requires returns-3)

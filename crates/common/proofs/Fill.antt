@@ -89,6 +89,10 @@ module _ {A : Type 0} where
           made = rw (h .made, a) (stretch-more n f before i d v (omega arith) e);
         }
 
+    -- what stands before the stretch is as it was
+    pub filling-before : (now : List A) (i k : ℕ) (d : A) → Filling n m f before now i → k < n → n ≤ length before → getD now k d ≡ getD before k d
+    filling-before now i k d h l b = rw (h .made) (stretch-before n f before i k d l b)
+
     pub filling-done : (now : List A) (i : ℕ) → Filling n m f before now i → m ≤ i → now ≡ stretch n m f before
     filling-done now i h l = let all : i ≡ m = omega (arith, h .most) in rw all at (h .made)
 

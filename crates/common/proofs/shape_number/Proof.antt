@@ -1,5 +1,4 @@
 -- `common::shape_number` meets its contract: each return by the tests that led there. Assumes nothing.
-use mathlib.Core.Path.{_∙_}
 use borrow.Author.Needs.{needs}
 use borrow.Author.Tests.{lt-leb, le-leb}
 use Rattle.common.specs.Refusals.{shapeNumber}

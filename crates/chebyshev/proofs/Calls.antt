@@ -1,0 +1,133 @@
+-- What the two calls' numbers say, and what the calls then answer and leave. Assumes nothing.
+use mathlib.Core.Path.{_≡_, refl, _∙_}
+use mathlib.Core.Bool.{Bool, true, false, cond, _&&_, and-eq-true-iff}
+use mathlib.Core.List.{List, [], _∷_}
+use Prim.Native.Nat.{ℕ, _*_, _<_, _≤_}
+use native.Mathlib.Omega.{arith}
+use lib.Dec.{leb, eqb}
+use lib.Ieee.{Float}
+use lib.ListN.{length}
+use borrow.Author.Tests.{eqb-true, le-leb, lt-leb, eq-eqb, ne-eqb}
+use Rattle.common.specs.Lists.{tabulate}
+use Rattle.common.specs.Refusals.{isOrder, orderNumber}
+use Rattle.common.proofs.Cases.{by-bool, inside-low, inside-high}
+use Rattle.common.proofs.Limits.{left-done, left-refused}
+use Rattle.chebyshev.specs.Nodes.{node, nodesNumber, nodesCall}
+use Rattle.chebyshev.specs.Polynomials.{T, T′, atPoints, derived, polynomialsNumber, polynomialsCall}
+
+-- AN ORDER that is refused or not
+
+order-in : (p : ℕ) → orderNumber p ≡ 0 → isOrder p ≡ true
+unfolding orderNumber
+order-in p = by-bool (isOrder p) (λ e _. e) (λ e. rw e λ z. absurd (omega arith))
+
+order-out : (p : ℕ) → (orderNumber p ≡ 0 → ⊥) → (isOrder p ≡ false) × (orderNumber p ≡ 2)
+unfolding orderNumber
+order-out p = by-bool (isOrder p) (λ e. rw e λ h. absurd (h refl)) (λ e. rw e λ h. (refl, refl))
+
+-- THE NODES
+
+module _ (p n : ℕ) where
+  pub nodes-order : (orderNumber p ≡ 0 → ⊥) → orderNumber p ≡ nodesNumber p n
+  unfolding nodesNumber
+  nodes-order h = order-out p h .1 ∙ rw (order-out p h .0)
+
+  pub nodes-length : orderNumber p ≡ 0 → (n ≡ p → ⊥) → 7 ≡ nodesNumber p n
+  unfolding nodesNumber
+  nodes-length ok d = rw (order-in p ok, ne-eqb n p d)
+
+  pub nodes-none : orderNumber p ≡ 0 → n ≡ p → 0 ≡ nodesNumber p n
+  unfolding nodesNumber
+  nodes-none ok e = rw (order-in p ok, eq-eqb n p e)
+
+  pub nodes-accepted : nodesNumber p n ≡ 0 → (1 ≤ p) × (p ≤ 16) × (n ≡ p)
+  unfolding nodesNumber
+  nodes-accepted =
+      by-bool (isOrder p)
+      (λ e. rw e (by-bool (eqb n p)
+      (λ e' _. (inside-low 1 16 p e, inside-high 1 16 p e, eqb-true n p e'))
+      (λ e'. rw e' λ z. absurd (omega arith))))
+      (λ e. rw e λ z. absurd (omega arith))
+
+module _ (p : ℕ) (l : List Float) (r : ℕ) (e : r ≡ nodesNumber p (length l)) where
+  pub nodes-refused : (r ≡ 0 → ⊥) → (r, l) ≡ nodesCall p l
+  unfolding nodesCall
+  nodes-refused h = rw (left-refused (nodesNumber p (length l)) (tabulate p (node p)) l (rw (← e) h), ← e)
+
+  pub nodes-done : (l' : List Float) → r ≡ 0 → l' ≡ tabulate p (node p) → (0, l') ≡ nodesCall p l
+  unfolding nodesCall
+  nodes-done l' z h = rw (left-done (nodesNumber p (length l)) (tabulate p (node p)) l (rw (← e) z), ← e, z, h)
+
+-- THE POLYNOMIALS
+
+-- the three lengths are as stated
+pub record Lengths (p P : ℕ) (with : Bool) (n v d : ℕ) : Type 0 where
+  pub points : n ≡ P
+  pub values : v ≡ p * P
+  pub slopes : d ≡ derived with (p * P)
+
+module _ (p P : ℕ) (with : Bool) (n v d : ℕ) where
+  pub polynomials-order : (orderNumber p ≡ 0 → ⊥) → orderNumber p ≡ polynomialsNumber p P with n v d
+  unfolding polynomialsNumber
+  polynomials-order h = order-out p h .1 ∙ rw (order-out p h .0)
+
+  module _ (ok : orderNumber p ≡ 0) where
+    pub polynomials-count : 4096 < P → 3 ≡ polynomialsNumber p P with n v d
+    unfolding polynomialsNumber
+    polynomials-count h = rw (order-in p ok, lt-leb P 4096 h)
+
+    module _ (few : P ≤ 4096) where
+      pub polynomials-points : (n ≡ P → ⊥) → 7 ≡ polynomialsNumber p P with n v d
+      unfolding polynomialsNumber
+      polynomials-points h = rw (order-in p ok, le-leb P 4096 few, ne-eqb n P h)
+
+      pub polynomials-values : n ≡ P → (v ≡ p * P → ⊥) → 7 ≡ polynomialsNumber p P with n v d
+      unfolding polynomialsNumber
+      polynomials-values e h = rw (order-in p ok, le-leb P 4096 few, eq-eqb n P e, ne-eqb v (p * P) h)
+
+      pub polynomials-slopes : n ≡ P → v ≡ p * P → (d ≡ derived with v → ⊥) → 7 ≡ polynomialsNumber p P with n v d
+      unfolding polynomialsNumber
+      polynomials-slopes e e' h =
+          rw (order-in p ok, le-leb P 4096 few, eq-eqb n P e, eq-eqb v (p * P) e', ne-eqb d (derived with (p * P)) (rw e' at h))
+
+      pub polynomials-none : n ≡ P → v ≡ p * P → d ≡ derived with v → 0 ≡ polynomialsNumber p P with n v d
+      unfolding polynomialsNumber
+      polynomials-none e e' e'' =
+          rw (order-in p ok, le-leb P 4096 few, eq-eqb n P e, eq-eqb v (p * P) e', eq-eqb d (derived with (p * P)) (rw e' at e''))
+
+  lengths : eqb n P && (eqb v (p * P) && eqb d (derived with (p * P))) ≡ true → Lengths p P with n v d
+  lengths h =
+      let one = and-eq-true-iff (eqb n P) (eqb v (p * P) && eqb d (derived with (p * P))) .0 h in
+      let two = and-eq-true-iff (eqb v (p * P)) (eqb d (derived with (p * P))) .0 (one .1) in
+      record { points = eqb-true _ _ (one .0); values = eqb-true _ _ (two .0); slopes = eqb-true _ _ (two .1) }
+
+  pub polynomials-accepted : polynomialsNumber p P with n v d ≡ 0 → Lengths p P with n v d
+  unfolding polynomialsNumber
+  polynomials-accepted =
+      by-bool (isOrder p)
+      (λ e. rw e (by-bool (leb P 4096)
+      (λ e'. rw e' (by-bool (eqb n P && (eqb v (p * P) && eqb d (derived with (p * P))))
+      (λ e'' _. lengths e'')
+      (λ e''. rw e'' λ z. absurd (omega arith))))
+      (λ e'. rw e' λ z. absurd (omega arith))))
+      (λ e. rw e λ z. absurd (omega arith))
+
+-- a list with no entries
+pub none : (l : List Float) → length l ≡ 0 → l ≡ []
+none [] h = refl
+none (x ∷ l) h = absurd (omega arith)
+
+module _ (p P : ℕ) (with : Bool) (x v d : List Float) (r : ℕ) (e : r ≡ polynomialsNumber p P with (length x) (length v) (length d)) where
+  pub polynomials-refused : (r ≡ 0 → ⊥) → (r, v, d) ≡ polynomialsCall p P with x v d
+  unfolding polynomialsCall
+  polynomials-refused h =
+      let k = polynomialsNumber p P with (length x) (length v) (length d) in
+      let some : k ≡ 0 → ⊥ = rw (← e) h in
+      rw (left-refused k (atPoints T p P x) v some, left-refused k (cond with (atPoints T′ p P x) []) d some, ← e)
+
+  pub polynomials-done : (v' d' : List Float) → r ≡ 0 → v' ≡ atPoints T p P x → d' ≡ cond with (atPoints T′ p P x) [] → (0, v', d') ≡ polynomialsCall p P with x v d
+  unfolding polynomialsCall
+  polynomials-done v' d' z h h' =
+      let k = polynomialsNumber p P with (length x) (length v) (length d) in
+      let done : k ≡ 0 = rw (← e) z in
+      rw (left-done k (atPoints T p P x) v done, left-done k (cond with (atPoints T′ p P x) []) d done, ← e, z, h, h')

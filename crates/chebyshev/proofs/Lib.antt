@@ -1,0 +1,4 @@
+pub mod Columns
+pub mod Calls
+pub mod NodesRight
+pub mod Determined

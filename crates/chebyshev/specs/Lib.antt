@@ -1,0 +1,4 @@
+pub mod Nodes
+pub mod Rule
+pub mod Polynomials
+pub mod Working

@@ -7,18 +7,6 @@ ghost use Rattle.common.specs.Lists.{stretch};
 ghost use Rattle.chebyshev.specs.Polynomials.{T, T′, atPoints, derived, polynomialsNumber, polynomialsCall};
 ghost use Rattle.chebyshev.specs.Working.{nextT, nextT′, columnT, columnT′};
 
-// One value in each row of the column at place `at`.
-fn fill_with(value: f64, rows: usize, at: usize, column: &mut [f64])
-    requires { ⌜ at + rows ≤ length (now column) ⌝ }
-    ensures { λ _. ⌜ now (column .exit) ≡ stretch at rows (λ i. value) (now (column .entry)) ⌝ }
-{
-    let mut i = 0;
-    while i < rows {
-        column[at + i] = value;
-        i += 1;
-    }
-}
-
 // The points themselves in the column at place `at`.
 fn copy_points(rows: usize, points: &[f64], at: usize, column: &mut [f64])
     requires { ⌜ (length (now points) ≡ rows) × (at + rows ≤ length (now column)) ⌝ }
@@ -66,7 +54,7 @@ fn polynomial_column(j: usize, rows: usize, points: &[f64], at: usize, tn: &mut 
     ensures { λ _. ⌜ now (tn .exit) ≡ stretch at rows (columnT j rows (now (points .entry)) (now (tn .entry)) at) (now (tn .entry)) ⌝ }
 {
     if j == 0 {
-        fill_with(1.0, rows, at, tn);
+        common::fill_with(1.0, rows, at, tn);
     } else if j == 1 {
         copy_points(rows, points, at, tn);
     } else {
@@ -80,9 +68,9 @@ fn derivative_column(j: usize, rows: usize, points: &[f64], tn: &[f64], at: usiz
     ensures { λ _. ⌜ now (dtn .exit) ≡ stretch at rows (columnT′ j rows (now (points .entry)) (now (tn .entry)) (now (dtn .entry)) at) (now (dtn .entry)) ⌝ }
 {
     if j == 0 {
-        fill_with(0.0, rows, at, dtn);
+        common::fill_with(0.0, rows, at, dtn);
     } else if j == 1 {
-        fill_with(1.0, rows, at, dtn);
+        common::fill_with(1.0, rows, at, dtn);
     } else {
         next_derivatives(rows, points, tn, at, dtn);
     }

@@ -1,6 +1,10 @@
 -- The contracts of this crate determine their results. Assumes nothing.
 use mathlib.Core.Path.{_≡_, sym, _∙_}
+use mathlib.Core.List.{List}
 use Prim.Native.Nat.{ℕ, _^_}
+use lib.Ieee.{Float}
+use Rattle.common.specs.Lists.{stretch}
+use Rattle.common.specs.Floats.{dotOf}
 use Rattle.common.specs.Refusals.{orderNumber, shapeNumber}
 
 -- two values that equal a third
@@ -16,3 +20,10 @@ shape-number-determined dimension order r r' = coincide r r' (shapeNumber dimens
 
 power-determined : (base exponent r r' : ℕ) → r ≡ base ^ exponent → r' ≡ base ^ exponent → r ≡ r'
 power-determined base exponent r r' = coincide r r' (base ^ exponent)
+
+fill-with-determined : (value : Float) (rows at : ℕ) (column exit exit' : List Float) → exit ≡ stretch at rows (λ i. value) column →
+    exit' ≡ stretch at rows (λ i. value) column → exit ≡ exit'
+fill-with-determined value rows at column exit exit' = coincide exit exit' (stretch at rows (λ i. value) column)
+
+dot-determined : (n : ℕ) (a : List Float) (i di : ℕ) (b : List Float) (j dj : ℕ) (r r' : Float) → r ≡ dotOf n a i di b j dj → r' ≡ dotOf n a i di b j dj → r ≡ r'
+dot-determined n a i di b j dj r r' = coincide r r' (dotOf n a i di b j dj)

@@ -4,5 +4,6 @@ pub mod Digits
 pub mod Fill
 pub mod Matrices
 pub mod Stores
+pub mod Sums
 pub mod Limits
 pub mod Determined

@@ -1,5 +1,9 @@
 -- Floats of 64 bits: each operation rounds once. The operations and constants that the rules name.
-use lib.Ieee.{Float, add, sub, mul, div, ofBits, binary64}
+use Prim.Native.Nat.{ℕ, zero, suc, _+_, _*_}
+use mathlib.Core.List.{List}
+use lib.IntN.{pos}
+use lib.Ieee.{Float, nan, add, sub, mul, div, ofInt, ofBits, binary64}
+use lib.ListN.{getD}
 
 abbrev pub plus : Float → Float → Float
 plus = add binary64
@@ -25,3 +29,19 @@ two₆₄ = ofBits binary64 0x4000000000000000
 
 abbrev pub half₆₄ : Float
 half₆₄ = ofBits binary64 0x3fe0000000000000
+
+-- a whole number as a float
+abbrev pub float : ℕ → Float
+float n = ofInt binary64 (pos n)
+
+-- THE PRODUCT RULE: terms are added in rising index, starting from +0.0, and nothing is fused
+unfoldable pub sums : ℕ → (ℕ → Float) → Float
+sums zero f = zero₆₄
+sums (suc n) f = plus (sums n f) (f n)
+
+-- the s-th term of two lists, read from two places on and two steps apart; and the sum of the first n
+abbrev pub term : (a : List Float) (i di : ℕ) (b : List Float) (j dj s : ℕ) → Float
+term a i di b j dj s = times (getD a (i + di * s) nan) (getD b (j + dj * s) nan)
+
+abbrev pub dotOf : (n : ℕ) (a : List Float) (i di : ℕ) (b : List Float) (j dj : ℕ) → Float
+dotOf n a i di b j dj = sums n (term a i di b j dj)

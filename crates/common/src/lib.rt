@@ -1,6 +1,9 @@
-// What the layers share: limits with their refusal numbers, and powers. Its definitions and laws stand in specs/ and proofs/.
+// What the layers share: limits with their refusal numbers, powers, a column of one value, and the one dot product. Its definitions and laws stand in specs/ and proofs/.
 ghost use mathlib.Core.Path.{_≡_};
-ghost use Prim.Native.Nat.{_^_, _≤_};
+ghost use Prim.Native.Nat.{ℕ, _+_, _*_, _^_, _<_, _≤_};
+ghost use lib.ListN.{length};
+ghost use Rattle.common.specs.Lists.{stretch};
+ghost use Rattle.common.specs.Floats.{dotOf};
 ghost use Rattle.common.specs.Refusals.{orderNumber, shapeNumber};
 
 // The numbers with which calls refuse; 0 is done.
@@ -55,4 +58,30 @@ pub fn power(base: usize, exponent: usize) -> usize
         i += 1;
     }
     r
+}
+
+// One value in each row of the column at place `at`.
+pub fn fill_with(value: f64, rows: usize, at: usize, column: &mut [f64])
+    requires { ⌜ at + rows ≤ length (now column) ⌝ }
+    ensures { λ _. ⌜ now (column .exit) ≡ stretch at rows (λ i. value) (now (column .entry)) ⌝ }
+{
+    let mut i = 0;
+    while i < rows {
+        column[at + i] = value;
+        i += 1;
+    }
+}
+
+// The sum of the products of n entries of a, from i on and di apart, with as many of b, from j on and dj apart.
+pub fn dot(n: usize, a: &[f64], i: usize, di: usize, b: &[f64], j: usize, dj: usize) -> f64
+    requires { ⌜ ((s : ℕ) → s < n → i + di * s < length (now a)) × ((s : ℕ) → s < n → j + dj * s < length (now b)) ⌝ }
+    ensures { λ r. ⌜ r ≡ dotOf n (now (a .entry)) i di (now (b .entry)) j dj ⌝ }
+{
+    let mut sum = 0.0;
+    let mut s = 0;
+    while s < n {
+        sum = sum + a[i + di * s] * b[j + dj * s];
+        s += 1;
+    }
+    sum
 }

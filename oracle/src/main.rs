@@ -1,9 +1,15 @@
-//! Writes the input and the answers of both comparisons into the repository its argument names.
+//! Writes the input and the answers of every comparison into the repository its argument names.
 
 mod check;
+mod floats;
 mod lookup;
+mod operators;
+mod polynomials;
+mod random;
 mod replay;
+mod transfers;
 
+use floats::Stream;
 use lookup::Lookup;
 use oracle::chebyshev::reach::{Tables, tables};
 use replay::Replay;
@@ -33,16 +39,29 @@ fn write(path: &Path, content: &[u8]) -> Result<(), String> {
     fs::write(path, content).map_err(fault)
 }
 
+/// Writes what a program is run on, and what it has to answer.
+fn write_run(root: &Path, name: &str, input: &[u8], answers: &str) -> Result<(), String> {
+    let folder = root.join("crates").join(name);
+    write(&folder.join("stdin"), input)?;
+    write(&folder.join("stdout"), answers.as_bytes())
+}
+
 fn write_all(root: &Path, replay: &Replay, lookup: &Lookup) -> Result<(), String> {
-    let folder = root.join("crates/replay_turn");
-    write(&folder.join("stdin"), &replay.input)?;
-    write(&folder.join("stdout"), replay.answers.as_bytes())?;
+    write_run(root, "replay_turn", &replay.input, &replay.answers)?;
 
     let folder = root.join("crates/lookup_cases");
     for file in &lookup.files {
         write(&folder.join("data").join(file.name), &file.content)?;
     }
     write(&folder.join("stdout"), lookup.answers().as_bytes())
+}
+
+/// The replays on floats, by the name of the program.
+fn streams() -> [(&'static str, Stream); 2] {
+    [
+        ("replay_chebyshev", polynomials::stream()),
+        ("replay_transfer", transfers::stream()),
+    ]
 }
 
 fn run() -> Result<(), String> {
@@ -59,8 +78,13 @@ fn run() -> Result<(), String> {
     let replay = replay::replay(&tables);
     let lookup = lookup::lookup(&tables);
     check::refusals(&lookup)?;
+    let streams = streams();
     write_all(&root, &replay, &lookup)?;
     check::count(&tables, &replay, &lookup);
+    for (name, stream) in streams {
+        write_run(&root, name, &stream.input, &stream.answers)?;
+        stream.count(name);
+    }
     Ok(())
 }
 

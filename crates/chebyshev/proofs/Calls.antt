@@ -1,6 +1,6 @@
 -- What the two calls' numbers say, and what the calls then answer and leave. Assumes nothing.
 use mathlib.Core.Path.{_≡_, refl, _∙_}
-use mathlib.Core.Bool.{Bool, true, false, cond, _&&_, and-eq-true-iff}
+use mathlib.Core.Bool.{Bool, true, cond, _&&_, and-eq-true-iff}
 use mathlib.Core.List.{List, [], _∷_}
 use Prim.Native.Nat.{ℕ, _*_, _<_, _≤_}
 use native.Mathlib.Omega.{arith}
@@ -11,19 +11,9 @@ use borrow.Author.Tests.{eqb-true, le-leb, lt-leb, eq-eqb, ne-eqb}
 use Rattle.common.specs.Lists.{tabulate}
 use Rattle.common.specs.Refusals.{isOrder, orderNumber}
 use Rattle.common.proofs.Cases.{by-bool, inside-low, inside-high}
-use Rattle.common.proofs.Limits.{left-done, left-refused}
+use Rattle.common.proofs.Limits.{order-in, order-out, left-done, left-refused}
 use Rattle.chebyshev.specs.Nodes.{node, nodesNumber, nodesCall}
 use Rattle.chebyshev.specs.Polynomials.{T, T′, atPoints, derived, polynomialsNumber, polynomialsCall}
-
--- AN ORDER that is refused or not
-
-order-in : (p : ℕ) → orderNumber p ≡ 0 → isOrder p ≡ true
-unfolding orderNumber
-order-in p = by-bool (isOrder p) (λ e _. e) (λ e. rw e λ z. absurd (omega arith))
-
-order-out : (p : ℕ) → (orderNumber p ≡ 0 → ⊥) → (isOrder p ≡ false) × (orderNumber p ≡ 2)
-unfolding orderNumber
-order-out p = by-bool (isOrder p) (λ e. rw e λ h. absurd (h refl)) (λ e. rw e λ h. (refl, refl))
 
 -- THE NODES
 

@@ -2,7 +2,7 @@
 use mathlib.Core.Path.{_≡_, refl, sym, ap, _∙_}
 use mathlib.Core.List.{List}
 use Prim.Native.Nat.{ℕ, zero, suc, _+_, _-_, _*_, _<_, _≤_}
-use native.Mathlib.Nat.{add-mul, one-mul, mul-le-mul}
+use native.Mathlib.Nat.{mul-le-mul}
 use native.Mathlib.Numerals.{add-one}
 use native.Mathlib.Omega.{arith}
 use lib.Ieee.{Float, nan}
@@ -11,22 +11,13 @@ use Rattle.common.specs.Lists.{stretch}
 use Rattle.common.specs.Floats.{zero₆₄, one₆₄}
 use Rattle.common.specs.Matrices.{cell, columnMajor}
 use Rattle.common.proofs.Fill.{fill-on, fill-read, fill-all}
-use Rattle.common.proofs.Matrices.{cell-at, column-entry}
+use Rattle.common.proofs.Matrices.{next-column, cell-at, column-entry}
 use Rattle.chebyshev.specs.Polynomials.{T, T′, atPoints}
 use Rattle.chebyshev.specs.Working.{nextT, nextT′, columnT, columnT′}
 
 -- from the third column on there are two columns before
 pub two-before : (j rows at : ℕ) → at ≡ j * rows → (j ≡ 0 → ⊥) → (j ≡ 1 → ⊥) → rows + rows ≤ at
 two-before j rows at e a b = let two = mul-le-mul {n₁ = 2} {m₁ = rows} {n₂ = j} {m₂ = rows} (omega arith) (omega arith) in omega arith
-
--- a further column: from j * rows to (j + 1) * rows
-pub next-column : (j rows : ℕ) → (j + 1) * rows ≡ j * rows + rows
-next-column j rows = rw (add-mul, one-mul)
-
-pub column-fits : (j order rows at : ℕ) → j < order → at ≡ j * rows → at + rows ≤ order * rows
-column-fits j order rows at l e =
-    let room = mul-le-mul {n₁ = j + 1} {m₁ = rows} {n₂ = order} {m₂ = rows} (omega arith) (omega arith) in
-    omega (arith, next-column j rows)
 
 -- EACH COLUMN by its number
 

@@ -7,18 +7,6 @@ ghost use Rattle.common.specs.Lists.{stretch};
 ghost use Rattle.chebyshev.specs.Polynomials.{T, T′, atPoints, derived, polynomialsNumber, polynomialsCall};
 ghost use Rattle.chebyshev.specs.Working.{nextT, nextT′, columnT, columnT′};
 
-// The points themselves in the column at place `at`.
-fn copy_points(rows: usize, points: &[f64], at: usize, column: &mut [f64])
-    requires { ⌜ (length (now points) ≡ rows) × (at + rows ≤ length (now column)) ⌝ }
-    ensures { λ _. ⌜ now (column .exit) ≡ stretch at rows (λ i. getD (now (points .entry)) i nan) (now (column .entry)) ⌝ }
-{
-    let mut i = 0;
-    while i < rows {
-        column[at + i] = points[i];
-        i += 1;
-    }
-}
-
 // The next column of T, at place `at`, from the two columns before it.
 fn next_polynomials(rows: usize, points: &[f64], at: usize, tn: &mut [f64])
     requires { ⌜ (length (now points) ≡ rows) × (rows + rows ≤ at) × (at + rows ≤ length (now tn)) ⌝ }
@@ -56,7 +44,7 @@ fn polynomial_column(j: usize, rows: usize, points: &[f64], at: usize, tn: &mut 
     if j == 0 {
         common::fill_with(1.0, rows, at, tn);
     } else if j == 1 {
-        copy_points(rows, points, at, tn);
+        common::copy_column(rows, points, at, tn);
     } else {
         next_polynomials(rows, points, at, tn);
     }

@@ -1,10 +1,11 @@
 -- The contracts of this crate determine their results. Assumes nothing.
 use mathlib.Core.Path.{_≡_, sym, _∙_}
 use mathlib.Core.List.{List}
-use Prim.Native.Nat.{ℕ, _^_}
-use lib.Ieee.{Float}
+use Prim.Native.Nat.{ℕ, _+_, _^_}
+use lib.Ieee.{Float, nan}
+use lib.ListN.{getD}
 use Rattle.common.specs.Lists.{stretch}
-use Rattle.common.specs.Floats.{dotOf}
+use Rattle.common.specs.Floats.{plus, times, dotOf}
 use Rattle.common.specs.Refusals.{orderNumber, shapeNumber}
 
 -- two values that equal a third
@@ -27,3 +28,13 @@ fill-with-determined value rows at column exit exit' = coincide exit exit' (stre
 
 dot-determined : (n : ℕ) (a : List Float) (i di : ℕ) (b : List Float) (j dj : ℕ) (r r' : Float) → r ≡ dotOf n a i di b j dj → r' ≡ dotOf n a i di b j dj → r ≡ r'
 dot-determined n a i di b j dj r r' = coincide r r' (dotOf n a i di b j dj)
+
+add-scaled-determined : (rows : ℕ) (source : List Float) (from : ℕ) (factor : Float) (at : ℕ) (column exit exit' : List Float) →
+    exit ≡ stretch at rows (λ i. plus (getD column (at + i) nan) (times (getD source (from + i) nan) factor)) column →
+    exit' ≡ stretch at rows (λ i. plus (getD column (at + i) nan) (times (getD source (from + i) nan) factor)) column → exit ≡ exit'
+add-scaled-determined rows source from factor at column exit exit' =
+    coincide exit exit' (stretch at rows (λ i. plus (getD column (at + i) nan) (times (getD source (from + i) nan) factor)) column)
+
+copy-column-determined : (rows : ℕ) (source : List Float) (at : ℕ) (column exit exit' : List Float) →
+    exit ≡ stretch at rows (λ i. getD source i nan) column → exit' ≡ stretch at rows (λ i. getD source i nan) column → exit ≡ exit'
+copy-column-determined rows source at column exit exit' = coincide exit exit' (stretch at rows (λ i. getD source i nan) column)

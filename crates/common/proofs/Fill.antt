@@ -5,7 +5,7 @@ use Prim.Native.Nat.{ℕ, zero, suc, _+_, _-_, _<_, _≤_}
 use native.Mathlib.Nat.{not-suc-le-zero, le-of-suc-le-suc, zero-add, suc-add, add-zero, add-assoc}
 use native.Mathlib.Omega.{arith}
 use lib.ListN.{length, set, take, drop, getD, length-append, length-drop, length-set, List·getD-append, take-append-drop}
-use lib.Seq.{length-take-le, drop-cons, drop-length, set-at, take-at, drop-at, drop-drop, getD-take}
+use lib.Seq.{length-take-le, drop-cons, drop-length, set-at, take-at, drop-at, drop-drop, getD-take, getD-drop, getD-append-add}
 use borrow.Rule.Slice.PartMut.{putMid, post-is}
 use Rattle.common.specs.Lists.{tabulate, stretch}
 
@@ -66,9 +66,36 @@ module _ {A : Type 0} where
         let long : k < length (take n l) = rw (length-take-le n l b) h in
         List·getD-append (take n l) (tabulate m f ++ drop (n + m) l) d k long ∙ getD-take n l k d h
 
+    -- what stands in it, and after it
+    pub stretch-inside : (m i : ℕ) (d : A) → i < m → n ≤ length l → getD (stretch n m f l) (n + i) d ≡ f i
+    stretch-inside m i d h b =
+        let long : i < length (tabulate m f) = rw length-tabulate h in
+        let place : length (take n l) + i ≡ n + i = rw (length-take-le n l b) in
+        ap (λ (k : ℕ). getD (stretch n m f l) k d) (sym place) ∙ getD-append-add (take n l) (tabulate m f ++ drop (n + m) l) i d ∙
+        List·getD-append (tabulate m f) (drop (n + m) l) d i long ∙ getD-tabulate m f i d h
+
+    pub stretch-after : (m j : ℕ) (d : A) → n + m ≤ length l → getD (stretch n m f l) (n + m + j) d ≡ getD l (n + m + j) d
+    stretch-after m j d h =
+        let place : length (take n l ++ tabulate m f) + j ≡ n + m + j = rw (head-length m h) in
+        rw (← append-assoc)
+        (ap (λ (k : ℕ). getD ((take n l ++ tabulate m f) ++ drop (n + m) l) k d) (sym place)
+        ∙ getD-append-add (take n l ++ tabulate m f) (drop (n + m) l) j d ∙ getD-drop (n + m) l j d)
+
     -- a call that was lent this part has left f 0, f 1, .. there
     pub stretch-part : (m : ℕ) (part : List A) → n + m ≤ length l → part ≡ tabulate m f → putMid n (n + m - n) l part ≡ stretch n m f l
     stretch-part m part h e = ap (λ (t : List A). take n l ++ (part ++ t)) (post-is n (n + m) l (omega arith)) ∙ rw e
+
+  -- the same stretch with other entries, and filled anew
+  pub stretch-cong : (n m : ℕ) (f g : ℕ → A) (l : List A) → ((i : ℕ) → i < m → f i ≡ g i) → stretch n m f l ≡ stretch n m g l
+  stretch-cong n m f g l h = ap (λ (t : List A). take n l ++ (t ++ drop (n + m) l)) (tabulate-cong m f g h)
+
+  pub stretch-again : (n m : ℕ) (f g : ℕ → A) (l : List A) → n + m ≤ length l → stretch n m g (stretch n m f l) ≡ stretch n m g l
+  stretch-again n m f g l h =
+      let t : n ≤ length l = omega arith in
+      let front : take n (stretch n m f l) ≡ take n l = take-at (take n l) (tabulate m f ++ drop (n + m) l) n (length-take-le n l t) in
+      let past : drop (n + m) (stretch n m f l) ≡ drop (n + m) l =
+      ap (drop (n + m)) (sym (append-assoc (take n l) (tabulate m f) (drop (n + m) l))) ∙ drop-at (take n l ++ tabulate m f) (drop (n + m) l) (n + m) (head-length n f l m h) in
+      rw (front, past)
 
   -- what a loop that stores f i at n + i, for i below m, keeps after i turns
   pub record Filling (n m : ℕ) (f : ℕ → A) (before now : List A) (i : ℕ) : Type 0 where
@@ -92,6 +119,10 @@ module _ {A : Type 0} where
     -- what stands before the stretch is as it was
     pub filling-before : (now : List A) (i k : ℕ) (d : A) → Filling n m f before now i → k < n → n ≤ length before → getD now k d ≡ getD before k d
     filling-before now i k d h l b = rw (h .made) (stretch-before n f before i k d l b)
+
+    -- and so is what stands at the next place
+    pub filling-here : (now : List A) (i : ℕ) (d : A) → Filling n m f before now i → n + m ≤ length before → getD now (n + i) d ≡ getD before (n + i) d
+    filling-here now i d h fits = rw (h .made) (rw add-zero at (stretch-after n f before i 0 d (omega (arith, h .most))))
 
     pub filling-done : (now : List A) (i : ℕ) → Filling n m f before now i → m ≤ i → now ≡ stretch n m f before
     filling-done now i h l = let all : i ≡ m = omega (arith, h .most) in rw all at (h .made)

@@ -1,19 +1,41 @@
 -- Bounds for dimensions to 3 and orders to 16, and what a shape's number says. Assumes nothing.
-use mathlib.Core.Path.{_≡_}
+use mathlib.Core.Path.{_≡_, refl}
+use mathlib.Core.Bool.{true, false}
 use Prim.Native.Nat.{ℕ, _^_, _≤_}
 use native.Mathlib.Nat.{le-trans, pow-le-pow-left, pow-le-pow-right}
 use native.Mathlib.Omega.{arith}
 use borrow.Author.Tests.{eq-eqb, ne-eqb}
-use Rattle.common.specs.Refusals.{isDimension, isOrder, Shape, orderNumber, shapeNumber, left}
+use Rattle.common.specs.Refusals.{noDimension, noOrder, unless, isDimension, isOrder, Shape, orderNumber, shapeNumber, left}
 use Rattle.common.proofs.Cases.{by-bool, inside-low, inside-high}
 
 pub power-most : (p n : ℕ) → p ≤ 16 → n ≤ 3 → p ^ n ≤ 4096
 power-most p n hp hn = le-trans (pow-le-pow-left hp n) (pow-le-pow-right {n = 16} (omega arith) hn)
 
--- an order that is not refused
+-- an order that is refused, or not
+pub order-in : (p : ℕ) → orderNumber p ≡ 0 → isOrder p ≡ true
+unfolding orderNumber
+order-in p = by-bool (isOrder p) (λ e _. e) (λ e. rw e λ z. absurd (omega arith))
+
+pub order-out : (p : ℕ) → (orderNumber p ≡ 0 → ⊥) → (isOrder p ≡ false) × (orderNumber p ≡ noOrder)
+unfolding orderNumber
+order-out p = by-bool (isOrder p) (λ e. rw e λ h. absurd (h refl)) (λ e. rw e λ h. (refl, refl))
+
 pub order-taken : (p : ℕ) → orderNumber p ≡ 0 → (1 ≤ p) × (p ≤ 16)
 unfolding orderNumber
 order-taken p = by-bool (isOrder p) (λ e _. (inside-low 1 16 p e, inside-high 1 16 p e)) (λ e. rw e λ z. absurd (omega arith))
+
+-- a shape that is refused, whatever a call would test next; or not
+pub shape-out : (D p rest : ℕ) → (shapeNumber D p ≡ 0 → ⊥) → shapeNumber D p ≡ unless (isDimension D) noDimension (unless (isOrder p) noOrder rest)
+unfolding shapeNumber orderNumber
+shape-out D p rest =
+    by-bool (isDimension D)
+    (λ e. rw e (by-bool (isOrder p) (λ e'. rw e' λ z. absurd (z refl)) (λ e'. rw e' λ _. refl)))
+    (λ e. rw e λ _. refl)
+
+pub shape-in : (D p : ℕ) → shapeNumber D p ≡ 0 → (isDimension D ≡ true) × (isOrder p ≡ true)
+unfolding shapeNumber
+shape-in D p =
+    by-bool (isDimension D) (λ e. rw e λ z. (refl, order-in p z)) (λ e. rw e λ z. absurd (omega arith))
 
 pub shape-taken : (D p : ℕ) → shapeNumber D p ≡ 0 → Shape D p
 unfolding shapeNumber

@@ -1,9 +1,10 @@
 // What the layers share: limits with their refusal numbers, powers, a column of one value, and the one dot product. Its definitions and laws stand in specs/ and proofs/.
 ghost use mathlib.Core.Path.{_≡_};
 ghost use Prim.Native.Nat.{ℕ, _+_, _*_, _^_, _<_, _≤_};
-ghost use lib.ListN.{length};
+ghost use lib.Ieee.{nan};
+ghost use lib.ListN.{length, getD};
 ghost use Rattle.common.specs.Lists.{stretch};
-ghost use Rattle.common.specs.Floats.{dotOf};
+ghost use Rattle.common.specs.Floats.{plus, times, dotOf};
 ghost use Rattle.common.specs.Refusals.{orderNumber, shapeNumber};
 
 // The numbers with which calls refuse; 0 is done.
@@ -68,6 +69,37 @@ pub fn fill_with(value: f64, rows: usize, at: usize, column: &mut [f64])
     let mut i = 0;
     while i < rows {
         column[at + i] = value;
+        i += 1;
+    }
+}
+
+// The first entries of another list in the rows of the column at place `at`.
+pub fn copy_column(rows: usize, source: &[f64], at: usize, column: &mut [f64])
+    requires { ⌜ (length (now source) ≡ rows) × (at + rows ≤ length (now column)) ⌝ }
+    ensures { λ _. ⌜ now (column .exit) ≡ stretch at rows (λ i. getD (now (source .entry)) i nan) (now (column .entry)) ⌝ }
+{
+    let mut i = 0;
+    while i < rows {
+        column[at + i] = source[i];
+        i += 1;
+    }
+}
+
+// Adds to each row of the column at place `at` that of another column, at place `from`, times a factor.
+pub fn add_scaled(
+    rows: usize,
+    source: &[f64],
+    from: usize,
+    factor: f64,
+    at: usize,
+    column: &mut [f64],
+)
+    requires { ⌜ (from + rows ≤ length (now source)) × (at + rows ≤ length (now column)) ⌝ }
+    ensures { λ _. ⌜ now (column .exit) ≡ stretch at rows (λ i. plus (getD (now (column .entry)) (at + i) nan) (times (getD (now (source .entry)) (from + i) nan) factor)) (now (column .entry)) ⌝ }
+{
+    let mut i = 0;
+    while i < rows {
+        column[at + i] = column[at + i] + source[from + i] * factor;
         i += 1;
     }
 }

@@ -10,7 +10,7 @@ use borrow.Author.Tests.{eqb-true, lt-ltb, le-ltb, eq-eqb, ne-eqb}
 use Rattle.common.specs.Lists.{tabulate, stores}
 use Rattle.common.specs.Refusals.{isDimension, isOrder, Shape, orderNumber, shapeNumber}
 use Rattle.common.proofs.Cases.{by-bool}
-use Rattle.common.proofs.Limits.{shape-taken, left-done, left-refused}
+use Rattle.common.proofs.Limits.{shape-out, shape-in, shape-taken, left-done, left-refused}
 use Rattle.common.proofs.Stores.{stores-all}
 use Rattle.turn.specs.Turned.{turned, returned}
 use Rattle.turn.specs.Tables.{cases, tableNumber, tableCall}
@@ -21,32 +21,21 @@ use Rattle.turn.proofs.Nodes.{turned-below, returned-below, returned-tu
 
 module _ (D p k n : ℕ) where
   pub number-shape : (shapeNumber D p ≡ 0 → ⊥) → shapeNumber D p ≡ tableNumber D p k n
-  unfolding shapeNumber orderNumber tableNumber
-  number-shape =
-      by-bool (isDimension D)
-      (λ e. rw e (by-bool (isOrder p) (λ e'. rw e' λ z. absurd (z refl)) (λ e'. rw e' λ _. refl)))
-      (λ e. rw e λ _. refl)
-
-  -- the shape is right, and so the dimension and the order are
-  number-past : shapeNumber D p ≡ 0 → (isDimension D ≡ true) × (isOrder p ≡ true)
-  unfolding shapeNumber orderNumber
-  number-past =
-      by-bool (isDimension D)
-      (λ e. rw e (by-bool (isOrder p) (λ e' _. (refl, e')) (λ e'. rw e' λ z. absurd (omega arith))))
-      (λ e. rw e λ z. absurd (omega arith))
+  unfolding tableNumber
+  number-shape = shape-out D p _
 
   module _ (ok : shapeNumber D p ≡ 0) where
     pub number-case : cases D ≤ k → 5 ≡ tableNumber D p k n
     unfolding tableNumber
-    number-case h = rw (number-past ok .0, number-past ok .1, le-ltb k (cases D) h)
+    number-case h = rw (shape-in D p ok .0, shape-in D p ok .1, le-ltb k (cases D) h)
 
     pub number-length : k < cases D → (n ≡ p ^ D → ⊥) → 7 ≡ tableNumber D p k n
     unfolding tableNumber
-    number-length h d = rw (number-past ok .0, number-past ok .1, lt-ltb k (cases D) h, ne-eqb n (p ^ D) d)
+    number-length h d = rw (shape-in D p ok .0, shape-in D p ok .1, lt-ltb k (cases D) h, ne-eqb n (p ^ D) d)
 
     pub number-none : k < cases D → n ≡ p ^ D → 0 ≡ tableNumber D p k n
     unfolding tableNumber
-    number-none h e = rw (number-past ok .0, number-past ok .1, lt-ltb k (cases D) h, eq-eqb n (p ^ D) e)
+    number-none h e = rw (shape-in D p ok .0, shape-in D p ok .1, lt-ltb k (cases D) h, eq-eqb n (p ^ D) e)
 
 -- number 0: the shape is right, and the table has a place for each node
 pub record Accepted (D p n : ℕ) : Type 0 where

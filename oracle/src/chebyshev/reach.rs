@@ -3,8 +3,11 @@
 // The parent silences warnings for the text; our own code must not hide behind that.
 #![warn(clippy::all, dead_code, unused_imports)]
 
-use super::{get_m2l_vectors, get_permutation_lookups};
-use faer::Mat;
+use super::{
+    apply_cheb_tensor_transfer, evaluate_chebyshev_polynomials, generate_chebyshev_nodes,
+    get_m2l_vectors, get_m2m_transfer_operators, get_permutation_lookups,
+};
+use faer::{Mat, MatRef};
 
 /// What the text answers for one dimension and one order.
 pub struct Tables {
@@ -46,4 +49,64 @@ pub fn tables(dimension: usize, order: usize) -> Tables {
         case_of,
         reference_of,
     }
+}
+
+/// The entries of a matrix, column after column.
+fn entries(matrix: &Mat<f64>) -> Vec<f64> {
+    (0..matrix.ncols())
+        .flat_map(|column| matrix.col_as_slice(column).to_vec())
+        .collect()
+}
+
+/// A matrix of these entries, column after column.
+fn matrix(entries: &[f64], rows: usize, columns: usize) -> Mat<f64> {
+    MatRef::from_column_major_slice(entries, rows, columns).to_owned()
+}
+
+/// Asks the text for the nodes of an order.
+pub fn nodes(order: usize) -> Vec<f64> {
+    generate_chebyshev_nodes(&order)
+}
+
+/// Asks the text for the polynomials below an order at some points, and for their derivatives.
+pub fn polynomials(
+    order: usize,
+    points: &[f64],
+    with_derivatives: bool,
+) -> (Vec<f64>, Option<Vec<f64>>) {
+    let (values, derivatives) =
+        evaluate_chebyshev_polynomials(order, points.len(), points, with_derivatives);
+    (entries(&values), derivatives.as_ref().map(entries))
+}
+
+/// Asks the text for the operators of an order, from nodes and the polynomials there.
+pub fn operators(order: usize, nodes: &[f64], node_polynomials: &[f64]) -> Vec<f64> {
+    let polynomials = matrix(node_polynomials, order, order);
+    entries(&get_m2m_transfer_operators(order, nodes, &polynomials))
+}
+
+/// A block to transfer: to its parent (M2M), or transposed to its child (L2L).
+pub struct Block {
+    pub dimension: usize,
+    pub order: usize,
+    pub child: usize,
+    pub transpose: bool,
+    pub input: Vec<f64>,
+    pub operators: Vec<f64>,
+}
+
+/// Asks the text to transfer a block.
+pub fn transferred(block: &Block) -> Vec<f64> {
+    let nodes = block.input.len();
+    let mut scratch = [Mat::zeros(nodes, 1), Mat::zeros(nodes, 1)];
+    apply_cheb_tensor_transfer(
+        &block.input,
+        &mut scratch,
+        MatRef::from_column_major_slice(&block.operators, block.order, 2 * block.order),
+        block.child,
+        block.order,
+        block.dimension,
+        block.transpose,
+    );
+    entries(&scratch[0])
 }

@@ -13,7 +13,8 @@ use mathlib.Core.List.{List}
 use lib.Ieee.{Float}
 use Rattle.common.proofs.Matrices.{column-length}
 use Rattle.chebyshev.specs.Polynomials.{T, T′}
-use Rattle.chebyshev.proofs.Columns.{next-column, column-fits, slopes-filled, columns-all}
+use Rattle.common.proofs.Matrices.{next-column, column-fits}
+use Rattle.chebyshev.proofs.Columns.{slopes-filled, columns-all}
 use Rattle.chebyshev.proofs.polynomials.fill_derivatives.Statement.{statement}
 use Rattle.chebyshev.proofs.polynomials.fill_derivatives.Tie as tie
 

@@ -9,7 +9,8 @@ use lib.ListN.{length, getD}
 use Rattle.common.specs.Lists.{stretch}
 use Rattle.common.specs.Matrices.{cell}
 use Rattle.chebyshev.specs.Polynomials.{T}
-use Rattle.chebyshev.proofs.Columns.{next-column, column-fits, column-filled, columns-all}
+use Rattle.common.proofs.Matrices.{next-column, column-fits}
+use Rattle.chebyshev.proofs.Columns.{column-filled, columns-all}
 use Rattle.chebyshev.proofs.polynomials.fill_polynomials.Statement.{statement}
 use Rattle.chebyshev.proofs.polynomials.fill_polynomials.Tie as tie
 

@@ -1,0 +1,172 @@
+-- What the two calls' numbers say, and what the calls then answer and leave. Assumes nothing.
+use mathlib.Core.Path.{_≡_, sym, ap, _∙_}
+use mathlib.Core.Bool.{Bool, true, false, cond, _&&_, and-eq-true-iff}
+use mathlib.Core.List.{List}
+use Prim.Native.Nat.{ℕ, _+_, _-_, _*_, _^_, _<_, _≤_}
+use native.Mathlib.Omega.{arith}
+use lib.Dec.{ltb, eqb}
+use lib.Ieee.{Float, nan}
+use lib.ListN.{length, getD}
+use borrow.Author.Tests.{eqb-true, lt-ltb, le-ltb, eq-eqb, ne-eqb}
+use Rattle.common.specs.Lists.{stretch}
+use Rattle.common.specs.Matrices.{columnMajor}
+use Rattle.common.specs.Refusals.{isDimension, isOrder, Shape, orderNumber, shapeNumber}
+use Rattle.common.proofs.Cases.{by-bool, inside-low, inside-high}
+use Rattle.common.proofs.Limits.{order-in, order-out, shape-in, shape-out, shape-taken, left-done, left-refused}
+use Rattle.transfer.specs.Operators.{operator, operatorsNumber, operatorsCall}
+use Rattle.transfer.specs.Tensor.{along, ends, transferNumber, transferred, transferCall}
+use Rattle.transfer.proofs.Passes.{copied}
+
+-- THE OPERATORS
+
+-- the lengths are as stated
+pub record Lengths (p n t o : ℕ) : Type 0 where
+  pub order-least : 1 ≤ p
+  pub order-most : p ≤ 16
+  pub nodes : n ≡ p
+  pub polynomials : t ≡ p * p
+  pub operators : o ≡ (p + p) * p
+
+module _ (p n t o : ℕ) where
+  pub operators-order : (orderNumber p ≡ 0 → ⊥) → orderNumber p ≡ operatorsNumber p n t o
+  unfolding operatorsNumber
+  operators-order h = order-out p h .1 ∙ rw (order-out p h .0)
+
+  module _ (ok : orderNumber p ≡ 0) where
+    pub operators-nodes : (n ≡ p → ⊥) → 7 ≡ operatorsNumber p n t o
+    unfolding operatorsNumber
+    operators-nodes h = rw (order-in p ok, ne-eqb n p h)
+
+    pub operators-polynomials : n ≡ p → (t ≡ p * p → ⊥) → 7 ≡ operatorsNumber p n t o
+    unfolding operatorsNumber
+    operators-polynomials e h = rw (order-in p ok, eq-eqb n p e, ne-eqb t (p * p) h)
+
+    pub operators-length : n ≡ p → t ≡ p * p → (o ≡ (p + p) * p → ⊥) → 7 ≡ operatorsNumber p n t o
+    unfolding operatorsNumber
+    operators-length e e' h = rw (order-in p ok, eq-eqb n p e, eq-eqb t (p * p) e', ne-eqb o ((p + p) * p) h)
+
+    pub operators-none : n ≡ p → t ≡ p * p → o ≡ (p + p) * p → 0 ≡ operatorsNumber p n t o
+    unfolding operatorsNumber
+    operators-none e e' e'' = rw (order-in p ok, eq-eqb n p e, eq-eqb t (p * p) e', eq-eqb o ((p + p) * p) e'')
+
+  lengths : isOrder p ≡ true → eqb n p && (eqb t (p * p) && eqb o ((p + p) * p)) ≡ true → Lengths p n t o
+  lengths e h =
+      let one = and-eq-true-iff (eqb n p) (eqb t (p * p) && eqb o ((p + p) * p)) .0 h in
+      let two = and-eq-true-iff (eqb t (p * p)) (eqb o ((p + p) * p)) .0 (one .1) in
+      record {
+        order-least = inside-low 1 16 p e;
+        order-most = inside-high 1 16 p e;
+        nodes = eqb-true _ _ (one .0);
+        polynomials = eqb-true _ _ (two .0);
+        operators = eqb-true _ _ (two .1);
+      }
+
+  pub operators-accepted : operatorsNumber p n t o ≡ 0 → Lengths p n t o
+  unfolding operatorsNumber
+  operators-accepted =
+      by-bool (isOrder p)
+      (λ e. rw e (by-bool (eqb n p && (eqb t (p * p) && eqb o ((p + p) * p)))
+      (λ e' _. lengths e e')
+      (λ e'. rw e' λ z. absurd (omega arith))))
+      (λ e. rw e λ z. absurd (omega arith))
+
+module _ (p : ℕ) (n t o : List Float) (r : ℕ) (e : r ≡ operatorsNumber p (length n) (length t) (length o)) where
+  pub operators-refused : (r ≡ 0 → ⊥) → (r, o) ≡ operatorsCall p n t o
+  unfolding operatorsCall
+  operators-refused h =
+      rw (left-refused (operatorsNumber p (length n) (length t) (length o)) (columnMajor p (p + p) (operator p n t)) o (rw (← e) h), ← e)
+
+  pub operators-done : (o' : List Float) → r ≡ 0 → o' ≡ columnMajor p (p + p) (operator p n t) → (0, o') ≡ operatorsCall p n t o
+  unfolding operatorsCall
+  operators-done o' z h =
+      rw (left-done (operatorsNumber p (length n) (length t) (length o)) (columnMajor p (p + p) (operator p n t)) o (rw (← e) z), ← e, z, h)
+
+-- THE TENSOR TRANSFER
+
+pub record Accepted (D p child i o f s : ℕ) : Type 0 where
+  pub shape : Shape D p
+  pub input : i ≡ p ^ D
+  pub operators : o ≡ (p + p) * p
+  pub first : f ≡ p ^ D
+  pub second : s ≡ p ^ D
+
+module _ (D p child i o f s : ℕ) where
+  pub transfer-shape : (shapeNumber D p ≡ 0 → ⊥) → shapeNumber D p ≡ transferNumber D p child i o f s
+  unfolding transferNumber
+  transfer-shape = shape-out D p _
+
+  module _ (ok : shapeNumber D p ≡ 0) where
+    pub transfer-child : 2 ^ D ≤ child → 5 ≡ transferNumber D p child i o f s
+    unfolding transferNumber
+    transfer-child h = rw (shape-in D p ok .0, shape-in D p ok .1, le-ltb child (2 ^ D) h)
+
+    module _ (l : child < 2 ^ D) where
+      -- the last test, once the others have passed
+      lengths-tested : (t : Bool) → eqb i (p ^ D) && (eqb o ((p + p) * p) && (eqb f (p ^ D) && eqb s (p ^ D))) ≡ t → cond t 0 7 ≡ transferNumber D p child i o f s
+      unfolding transferNumber
+      lengths-tested t e = rw (shape-in D p ok .0, shape-in D p ok .1, lt-ltb child (2 ^ D) l, e)
+
+      pub transfer-input : (i ≡ p ^ D → ⊥) → 7 ≡ transferNumber D p child i o f s
+      transfer-input h = lengths-tested false (rw (ne-eqb i (p ^ D) h))
+
+      pub transfer-operators : i ≡ p ^ D → (o ≡ (p + p) * p → ⊥) → 7 ≡ transferNumber D p child i o f s
+      transfer-operators ei h = lengths-tested false (rw (eq-eqb i (p ^ D) ei, ne-eqb o ((p + p) * p) h))
+
+      pub transfer-first : i ≡ p ^ D → o ≡ (p + p) * p → (f ≡ p ^ D → ⊥) → 7 ≡ transferNumber D p child i o f s
+      transfer-first ei eo h = lengths-tested false (rw (eq-eqb i (p ^ D) ei, eq-eqb o ((p + p) * p) eo, ne-eqb f (p ^ D) h))
+
+      pub transfer-second : i ≡ p ^ D → o ≡ (p + p) * p → f ≡ p ^ D → (s ≡ p ^ D → ⊥) → 7 ≡ transferNumber D p child i o f s
+      transfer-second ei eo ef h =
+          lengths-tested false (rw (eq-eqb i (p ^ D) ei, eq-eqb o ((p + p) * p) eo, eq-eqb f (p ^ D) ef, ne-eqb s (p ^ D) h))
+
+      pub transfer-none : i ≡ p ^ D → o ≡ (p + p) * p → f ≡ p ^ D → s ≡ p ^ D → 0 ≡ transferNumber D p child i o f s
+      transfer-none ei eo ef es =
+          lengths-tested true (rw (eq-eqb i (p ^ D) ei, eq-eqb o ((p + p) * p) eo, eq-eqb f (p ^ D) ef, eq-eqb s (p ^ D) es))
+
+  transfer-lengths : shapeNumber D p ≡ 0 → eqb i (p ^ D) && (eqb o ((p + p) * p) && (eqb f (p ^ D) && eqb s (p ^ D))) ≡ true → Accepted D p child i o f s
+  transfer-lengths ok h =
+      let one = and-eq-true-iff (eqb i (p ^ D)) (eqb o ((p + p) * p) && (eqb f (p ^ D) && eqb s (p ^ D))) .0 h in
+      let two = and-eq-true-iff (eqb o ((p + p) * p)) (eqb f (p ^ D) && eqb s (p ^ D)) .0 (one .1) in
+      let three = and-eq-true-iff (eqb f (p ^ D)) (eqb s (p ^ D)) .0 (two .1) in
+      record {
+        shape = shape-taken D p ok;
+        input = eqb-true _ _ (one .0);
+        operators = eqb-true _ _ (two .0);
+        first = eqb-true _ _ (three .0);
+        second = eqb-true _ _ (three .1);
+      }
+
+  pub transfer-accepted : transferNumber D p child i o f s ≡ 0 → Accepted D p child i o f s
+  unfolding transferNumber shapeNumber orderNumber
+  transfer-accepted =
+      by-bool (isDimension D)
+      (λ e1. rw e1 (by-bool (isOrder p)
+      (λ e2. rw e2 (by-bool (ltb child (2 ^ D))
+      (λ e3. rw e3 (by-bool (eqb i (p ^ D) && (eqb o ((p + p) * p) && (eqb f (p ^ D) && eqb s (p ^ D))))
+      (λ e4 _. transfer-lengths (rw (e1, e2)) e4)
+      (λ e4. rw e4 λ z. absurd (omega arith))))
+      (λ e3. rw e3 λ z. absurd (omega arith))))
+      (λ e2. rw e2 λ z. absurd (omega arith))))
+      (λ e1. rw e1 λ z. absurd (omega arith))
+
+module _ (D p child : ℕ) (transpose : Bool) (i o f s : List Float) (r : ℕ) (e : r ≡ transferNumber D p child (length i) (length o) (length f) (length s)) where
+  pub transfer-refused : (r ≡ 0 → ⊥) → (r, f, s) ≡ transferCall D p child transpose i o f s
+  unfolding transferCall
+  transfer-refused h =
+      let n = transferNumber D p child (length i) (length o) (length f) (length s) in
+      let some : n ≡ 0 → ⊥ = rw (← e) h in
+      rw (left-refused n (transferred D p child transpose i o s .0) f some, left-refused n (transferred D p child transpose i o s .1) s some, ← e)
+
+  -- the passes start from a copy of the input
+  pub transfer-done : (start f' s' : List Float) → r ≡ 0 → start ≡ stretch 0 (length i) (λ k. getD i k nan) f →
+      (f', s') ≡ ends (along p (p ^ (D - 1)) child transpose o) D start s → (0, f', s') ≡ transferCall D p child transpose i o f s
+  unfolding transferCall transferred
+  transfer-done start f' s' z hs h =
+      let n = transferNumber D p child (length i) (length o) (length f) (length s) in
+      let done : n ≡ 0 = rw (← e) z in
+      let taken = transfer-accepted D p child (length i) (length o) (length f) (length s) done in
+      let begun : start ≡ i = hs ∙ copied i f (taken .first ∙ sym (taken .input)) in
+      let made : (f', s') ≡ transferred D p child transpose i o s = rw (← begun) h in
+      let one : f' ≡ transferred D p child transpose i o s .0 = ap (λ (x : List Float × List Float). x .0) made in
+      let two : s' ≡ transferred D p child transpose i o s .1 = ap (λ (x : List Float × List Float). x .1) made in
+      rw (left-done n (transferred D p child transpose i o s .0) f done, left-done n (transferred D p child transpose i o s .1) s done, ← e, z, one, two)

@@ -1,0 +1,81 @@
+-- A column of the operators: its sums grow term by term, and all columns make the matrix. Assumes nothing.
+use mathlib.Core.Path.{_≡_, refl, sym, ap, _∙_}
+use mathlib.Core.List.{List}
+use Prim.Native.Nat.{ℕ, suc, _+_, _-_, _*_, _<_, _≤_}
+use native.Mathlib.Numerals.{add-one}
+use native.Mathlib.Omega.{arith}
+use lib.Ieee.{Float, nan}
+use lib.ListN.{length, getD}
+use borrow.Author.Tests.{lt-ltb, le-ltb}
+use Rattle.common.specs.Floats.{plus, minus, times, over, zero₆₄, one₆₄, two₆₄, half₆₄, float, sums}
+use Rattle.common.specs.Lists.{stretch}
+use Rattle.common.specs.Matrices.{cell, columnMajor}
+use Rattle.common.proofs.Fill.{stretch-inside, stretch-cong, stretch-again, fill-on, fill-all}
+use Rattle.common.proofs.Matrices.{cell-at}
+use Rattle.common.proofs.Sums.{sums-more}
+use Rattle.chebyshev.specs.Polynomials.{T}
+use Rattle.transfer.specs.Operators.{childNode, nodeT, operator}
+use Rattle.transfer.specs.Working.{partOf}
+
+-- A CHILD'S NODE
+
+pub lower-node : (p c : ℕ) (nodes : List Float) → c < p → times (minus (getD nodes c nan) one₆₄) half₆₄ ≡ childNode p nodes c
+unfolding childNode
+lower-node p c nodes l = rw (lt-ltb c p l)
+
+pub upper-node : (p c : ℕ) (nodes : List Float) → p ≤ c → times (plus (getD nodes (c - p) nan) one₆₄) half₆₄ ≡ childNode p nodes c
+unfolding childNode
+upper-node p c nodes l = rw (le-ltb c p l)
+
+-- THE RECURRENCE carried along
+pub T-next : (k : ℕ) (x t next : Float) → t ≡ T k x → next ≡ T (k + 1) x → minus (times (times two₆₄ x) next) t ≡ T (k + 1 + 1) x
+unfolding T
+T-next k x t next h h' =
+    let one : k + 1 ≡ suc k = add-one k in
+    let two : k + 1 + 1 ≡ suc (suc k) = omega arith in
+    rw (two, h, h', one)
+
+-- THE SUMS of a column
+
+module _ (p : ℕ) (poly : List Float) (x : Float) (at : ℕ) (l : List Float) (fits : at + p ≤ length l) where
+  -- none yet, where the column holds zeros
+  pub sums-none : (now : List Float) → now ≡ stretch at p (λ i. zero₆₄) l → now ≡ stretch at p (partOf p poly x 0) now
+  unfolding sums
+  sums-none now e = e ∙ rw e (sym (stretch-again at p (λ i. zero₆₄) (λ i. zero₆₄) l fits))
+
+  -- one term more
+  pub sums-next : (now : List Float) (k from : ℕ) (t : Float) → now ≡ stretch at p (partOf p poly x k) l → from ≡ k * p → t ≡ T k x →
+      stretch at p (λ i. plus (getD now (at + i) nan) (times (getD poly (from + i) nan) t)) now ≡ stretch at p (partOf p poly x (k + 1)) l
+  sums-next now k from t e f h =
+      rw (e, f, h)
+      (stretch-again at p (partOf p poly x k) _ l fits
+      ∙ stretch-cong at p _ (partOf p poly x (k + 1)) l
+      (λ i b. rw (stretch-inside at (partOf p poly x k) l p i nan b (omega arith)) (sums-more (λ s. times (nodeT p poly i s) (T s x)) k _ refl)))
+
+  -- all of them, over the column as it was before the zeros
+  pub sums-all : (zeros now : List Float) → zeros ≡ stretch at p (λ i. zero₆₄) l → now ≡ stretch at p (partOf p poly x p) zeros →
+      now ≡ stretch at p (partOf p poly x p) l
+  sums-all zeros now e h = h ∙ rw e (stretch-again at p (λ i. zero₆₄) (partOf p poly x p) l fits)
+
+-- A WHOLE COLUMN, summed and scaled, after those before it
+
+module _ (p : ℕ) (nodes poly : List Float) where
+  pub column-done : (l start summed : List Float) (c at : ℕ) (x factor offset : Float) → at ≡ c * p → at + p ≤ length l → x ≡ childNode p nodes c →
+      factor ≡ over two₆₄ (float p) → offset ≡ over one₆₄ (float p) →
+      start ≡ stretch 0 at (cell p (operator p nodes poly)) l → summed ≡ stretch at p (partOf p poly x p) start → length start ≡ length l →
+      stretch at p (λ i. minus (times (getD summed (at + i) nan) factor) offset) summed ≡ stretch 0 (at + p) (cell p (operator p nodes poly)) l
+  unfolding operator
+  column-done l start summed c at x factor offset e fits hx hf ho hs hm long =
+      let room : at + p ≤ length start = omega arith in
+      let entry : (i : ℕ) → i < p → minus (times (getD summed (at + i) nan) factor) offset ≡ operator p nodes poly i c =
+      λ i b. let inside : getD summed (at + i) nan ≡ partOf p poly x p i = rw hm (stretch-inside at (partOf p poly x p) start p i nan b (omega arith)) in
+      rw (inside, hf, ho, hx) in
+      let column : ℕ → Float = λ i. operator p nodes poly i c in
+      stretch-cong at p _ column summed entry
+      ∙ ap (stretch at p column) hm ∙ stretch-again at p (partOf p poly x p) column start room ∙ ap (stretch at p column) hs
+      ∙ fill-on at p (cell p (operator p nodes poly)) column l (λ i b. sym (rw e (cell-at p (operator p nodes poly) i c b))) fits
+
+  pub columns-all : (l : List Float) (at : ℕ) → length l ≡ (p + p) * p → at ≡ (p + p) * p →
+      stretch 0 at (cell p (operator p nodes poly)) l ≡ columnMajor p (p + p) (operator p nodes poly)
+  unfolding columnMajor
+  columns-all l at h e = rw e (fill-all ((p + p) * p) (cell p (operator p nodes poly)) l h)

@@ -1,0 +1,45 @@
+-- The tensor transfer: a pass along each axis, the last first, from one buffer to the other.
+use mathlib.Core.Bool.{Bool, cond, _&&_}
+use mathlib.Core.List.{List}
+use Prim.Native.Nat.{ℕ, zero, suc, _+_, _-_, _*_, _/_, _%_, _^_}
+use lib.Dec.{ltb, eqb}
+use lib.Ieee.{Float}
+use lib.ListN.{length, drop}
+use Rattle.common.specs.Floats.{dotOf}
+use Rattle.common.specs.Matrices.{columnMajor}
+use Rattle.common.specs.Refusals.{noDimension, noOrder, noCase, wrongLength, unless, isDimension, isOrder, left}
+
+-- One pass. Output place c + width * r is the sum over s of the values at s + p * c times the operator's entry (r, s), which stands at dr * r + ds * s.
+unfoldable pub passed : (p width : ℕ) → (values operator : List Float) → (dr ds : ℕ) → List Float
+passed p width values operator dr ds = columnMajor width p (λ c r. dotOf p values (p * c) 1 operator (dr * r) ds)
+
+-- The pass along an axis: the lower block of the operators where bit `axis` of the child is 0, else the upper; entry (r,s) for M2M, (s,r) for L2L.
+unfoldable pub along : (p width child : ℕ) → (transpose : Bool) → (operators : List Float) → (axis : ℕ) → (values : List Float) → List Float
+along p width child transpose operators axis values =
+    passed p width values (drop (child / 2 ^ axis % 2 * (p * p)) operators) (cond transpose p 1) (cond transpose 1 p)
+
+-- What two buffers hold once the passes of the axes below n are done, the highest first, each from one buffer to the other:
+-- the one that the first pass reads, and the one that it writes.
+unfoldable pub ends : (pass : ℕ → List Float → List Float) → (n : ℕ) → (read written : List Float) → List Float × List Float
+ends pass zero r w = (r, w)
+ends pass (suc n) r w = (ends pass n (pass n r) r .1, ends pass n (pass n r) r .0)
+
+-- THE CALL
+
+unfoldable pub transferNumber : (D p child input operators first second : ℕ) → ℕ
+transferNumber D p c i o f s =
+    unless (isDimension D) noDimension
+    (unless (isOrder p) noOrder
+    (unless (ltb c (2 ^ D)) noCase
+    (unless (eqb i (p ^ D) && (eqb o ((p + p) * p) && (eqb f (p ^ D) && eqb s (p ^ D)))) wrongLength 0)))
+
+-- the passes start from the input in the first buffer, as p rows and p ^ (D - 1) columns; the result is in the first for D = 2, and in the second otherwise
+unfoldable pub transferred : (D p child : ℕ) → (transpose : Bool) → (input operators second : List Float) → List Float × List Float
+transferred D p c transpose input operators second = ends (along p (p ^ (D - 1)) c transpose operators) D input second
+
+unfoldable pub transferCall : (D p child : ℕ) → (transpose : Bool) → (input operators first second : List Float) → ℕ × List Float × List Float
+transferCall D p c transpose i o f s = (
+  transferNumber D p c (length i) (length o) (length f) (length s),
+  left (transferNumber D p c (length i) (length o) (length f) (length s)) (transferred D p c transpose i o s .0) f,
+  left (transferNumber D p c (length i) (length o) (length f) (length s)) (transferred D p c transpose i o s .1) s,
+)

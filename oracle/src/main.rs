@@ -56,12 +56,12 @@ fn write_all(root: &Path, replay: &Replay, lookup: &Lookup) -> Result<(), String
     write(&folder.join("stdout"), lookup.answers().as_bytes())
 }
 
-/// The replays on floats, by the name of the program.
-fn streams() -> [(&'static str, Stream); 2] {
-    [
-        ("replay_chebyshev", polynomials::stream()),
-        ("replay_transfer", transfers::stream()),
-    ]
+/// The replays on floats, one after the other.
+fn floats() -> Stream {
+    let mut stream = Stream::default();
+    polynomials::ask_all(&mut stream);
+    transfers::ask_all(&mut stream);
+    stream
 }
 
 fn run() -> Result<(), String> {
@@ -78,13 +78,11 @@ fn run() -> Result<(), String> {
     let replay = replay::replay(&tables);
     let lookup = lookup::lookup(&tables);
     check::refusals(&lookup)?;
-    let streams = streams();
+    let floats = floats();
     write_all(&root, &replay, &lookup)?;
     check::count(&tables, &replay, &lookup);
-    for (name, stream) in streams {
-        write_run(&root, name, &stream.input, &stream.answers)?;
-        stream.count(name);
-    }
+    write_run(&root, "replay_floats", &floats.input, &floats.answers)?;
+    floats.count("replay_floats");
     Ok(())
 }
 

@@ -72,22 +72,20 @@ fn points(random: &mut Random, order: usize) -> Vec<Vec<f64>> {
 }
 
 /// All nodes come first, then the polynomials, by order.
-pub fn stream() -> Stream {
-    let mut stream = Stream::default();
+pub fn ask_all(stream: &mut Stream) {
     let mut random = Random::new(1);
     for order in ORDERS {
-        ask_nodes(&mut stream, order);
+        ask_nodes(stream, order);
     }
     for order in ORDERS {
         for with_derivatives in [false, true] {
             for points in points(&mut random, order) {
-                ask_polynomials(&mut stream, order, with_derivatives, &points);
+                ask_polynomials(stream, order, with_derivatives, &points);
             }
         }
     }
     for (order, with_derivatives) in [(3, false), (16, true)] {
         let points = random.units(MOST_POINTS);
-        ask_polynomials(&mut stream, order, with_derivatives, &points);
+        ask_polynomials(stream, order, with_derivatives, &points);
     }
-    stream
 }

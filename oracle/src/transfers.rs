@@ -83,16 +83,15 @@ fn special_blocks(stream: &mut Stream) {
 }
 
 /// The operators come first, then the blocks by dimension, the largest, and those of special floats.
-pub fn stream() -> Stream {
-    let mut stream = Stream::default();
+pub fn ask_all(stream: &mut Stream) {
     let mut random = Random::new(2);
-    operators::ask_all(&mut stream, &mut random);
+    operators::ask_all(stream, &mut random);
     for dimension in 1..=3 {
         for order in 1..=4 {
-            every_child(&mut stream, dimension, order, |n| random.picks(n, &SMALL));
+            every_child(stream, dimension, order, |n| random.picks(n, &SMALL));
         }
         for order in [2, 5, 8] {
-            every_child(&mut stream, dimension, order, |n| random.units(n));
+            every_child(stream, dimension, order, |n| random.units(n));
         }
     }
     let (nodes, polynomials) = operators::true_nodes(16);
@@ -104,7 +103,6 @@ pub fn stream() -> Stream {
         input: random.units(4096),
         operators: reach::operators(16, &nodes, &polynomials),
     };
-    ask_transfer(&mut stream, &largest);
-    special_blocks(&mut stream);
-    stream
+    ask_transfer(stream, &largest);
+    special_blocks(stream);
 }

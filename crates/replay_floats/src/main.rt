@@ -1,0 +1,38 @@
+// Replays calls on floats: reads cases from standard input, and writes a line for what the call of each answers.
+mod blocks;
+mod case;
+mod float;
+mod line;
+mod operators;
+mod polynomials;
+mod size;
+
+use blocks::replay_block;
+use operators::replay_operators;
+use polynomials::replay_nodes;
+use polynomials::replay_polynomials;
+
+// Replays a case, and answers whether there was one.
+fn replay_case() -> bool {
+    let case = case::next_case();
+    let kind = case.kind;
+    let mut line = [0u8; 2048];
+    let to = match kind {
+        0 => return false,
+        1 => replay_nodes(&mut line, case.order),
+        2 => replay_polynomials(&mut line, case),
+        3 => replay_operators(&mut line, case.order),
+        4 => replay_block(&mut line, case),
+        _ => line::put_unknown(&mut line, kind),
+    };
+    line::print(&mut line, to)
+}
+
+// A proved loop has to end, and nothing says that the input does. So the loop counts its turns
+// down, from a number that no run uses up.
+fn main() {
+    let mut turns = u64::MAX;
+    while turns > 0 && replay_case() {
+        turns -= 1;
+    }
+}

@@ -4,6 +4,7 @@ mod check;
 mod floats;
 mod lookup;
 mod operators;
+mod points;
 mod polynomials;
 mod random;
 mod replay;
@@ -61,6 +62,7 @@ fn floats() -> Stream {
     let mut stream = Stream::default();
     polynomials::ask_all(&mut stream);
     transfers::ask_all(&mut stream);
+    points::ask_all(&mut stream);
     stream
 }
 

@@ -11,7 +11,7 @@ use borrow.Author.Tests.{eqb-true, le-leb, lt-leb, eq-eqb, ne-eqb}
 use Rattle.common.specs.Lists.{tabulate}
 use Rattle.common.specs.Refusals.{isOrder, orderNumber}
 use Rattle.common.proofs.Cases.{by-bool, inside-low, inside-high}
-use Rattle.common.proofs.Limits.{order-in, order-out, left-done, left-refused}
+use Rattle.common.proofs.Limits.{order-in, order-out, call-refused, call-done, call-refused₂, call-done₂}
 use Rattle.chebyshev.specs.Nodes.{node, nodesNumber, nodesCall}
 use Rattle.chebyshev.specs.Polynomials.{T, T′, atPoints, derived, polynomialsNumber, polynomialsCall}
 
@@ -42,11 +42,11 @@ module _ (p n : ℕ) where
 module _ (p : ℕ) (l : List Float) (r : ℕ) (e : r ≡ nodesNumber p (length l)) where
   pub nodes-refused : (r ≡ 0 → ⊥) → (r, l) ≡ nodesCall p l
   unfolding nodesCall
-  nodes-refused h = rw (left-refused (nodesNumber p (length l)) (tabulate p (node p)) l (rw (← e) h), ← e)
+  nodes-refused = call-refused r _ (tabulate p (node p)) l e
 
   pub nodes-done : (l' : List Float) → r ≡ 0 → l' ≡ tabulate p (node p) → (0, l') ≡ nodesCall p l
   unfolding nodesCall
-  nodes-done l' z h = rw (left-done (nodesNumber p (length l)) (tabulate p (node p)) l (rw (← e) z), ← e, z, h)
+  nodes-done = call-done r _ (tabulate p (node p)) l e
 
 -- THE POLYNOMIALS
 
@@ -110,14 +110,8 @@ none (x ∷ l) h = absurd (omega arith)
 module _ (p P : ℕ) (with : Bool) (x v d : List Float) (r : ℕ) (e : r ≡ polynomialsNumber p P with (length x) (length v) (length d)) where
   pub polynomials-refused : (r ≡ 0 → ⊥) → (r, v, d) ≡ polynomialsCall p P with x v d
   unfolding polynomialsCall
-  polynomials-refused h =
-      let k = polynomialsNumber p P with (length x) (length v) (length d) in
-      let some : k ≡ 0 → ⊥ = rw (← e) h in
-      rw (left-refused k (atPoints T p P x) v some, left-refused k (cond with (atPoints T′ p P x) []) d some, ← e)
+  polynomials-refused = call-refused₂ r _ (atPoints T p P x) v (cond with (atPoints T′ p P x) []) d e
 
   pub polynomials-done : (v' d' : List Float) → r ≡ 0 → v' ≡ atPoints T p P x → d' ≡ cond with (atPoints T′ p P x) [] → (0, v', d') ≡ polynomialsCall p P with x v d
   unfolding polynomialsCall
-  polynomials-done v' d' z h h' =
-      let k = polynomialsNumber p P with (length x) (length v) (length d) in
-      let done : k ≡ 0 = rw (← e) z in
-      rw (left-done k (atPoints T p P x) v done, left-done k (cond with (atPoints T′ p P x) []) d done, ← e, z, h, h')
+  polynomials-done = call-done₂ r _ (atPoints T p P x) v (cond with (atPoints T′ p P x) []) d e

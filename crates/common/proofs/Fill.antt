@@ -97,6 +97,19 @@ module _ {A : Type 0} where
       ap (drop (n + m)) (sym (append-assoc (take n l) (tabulate m f) (drop (n + m) l))) ∙ drop-at (take n l ++ tabulate m f) (drop (n + m) l) (n + m) (head-length n f l m h) in
       rw (front, past)
 
+  -- the next stretch goes on where the last ended
+  pub stretch-on : (n m k : ℕ) (f g : ℕ → A) (l : List A) → ((i : ℕ) → i < k → g i ≡ f (m + i)) → n + (m + k) ≤ length l →
+      stretch (n + m) k g (stretch n m f l) ≡ stretch n (m + k) f l
+  stretch-on n m k f g l same h =
+      let head = take n l ++ tabulate m f in
+      let long : length head ≡ n + m = head-length n f l m (omega arith) in
+      let whole : stretch n m f l ≡ head ++ drop (n + m) l = sym (append-assoc (take n l) (tabulate m f) (drop (n + m) l)) in
+      let front : take (n + m) (stretch n m f l) ≡ head = ap (take (n + m)) whole ∙ take-at head (drop (n + m) l) (n + m) long in
+      let past : drop (n + m + k) (stretch n m f l) ≡ drop (n + (m + k)) l =
+      sym (drop-drop k (n + m) (stretch n m f l)) ∙ ap (drop k) (ap (drop (n + m)) whole ∙ drop-at head (drop (n + m) l) (n + m) long) ∙
+      drop-drop k (n + m) l ∙ ap (λ (i : ℕ). drop i l) (add-assoc n m k) in
+      rw (front, past, tabulate-cong k g (λ i. f (m + i)) same, tabulate-add m k f, append-assoc, append-assoc)
+
   -- what a loop that stores f i at n + i, for i below m, keeps after i turns
   pub record Filling (n m : ℕ) (f : ℕ → A) (before now : List A) (i : ℕ) : Type 0 where
     pub most : i ≤ m

@@ -1,4 +1,4 @@
--- Bounds for dimensions to 3 and orders to 16, and what a shape's number says. Assumes nothing.
+-- Bounds for dimensions to 3 and orders to 16, what a shape's number says, and what a call answers. Assumes nothing.
 use mathlib.Core.Path.{_≡_, refl}
 use mathlib.Core.Bool.{true, false}
 use Prim.Native.Nat.{ℕ, _^_, _≤_}
@@ -6,7 +6,7 @@ use native.Mathlib.Nat.{le-trans, pow-le-pow-left, pow-le-pow-right}
 use native.Mathlib.Omega.{arith}
 use borrow.Author.Tests.{eq-eqb, ne-eqb}
 use Rattle.common.specs.Refusals.{noDimension, noOrder, unless, isDimension, isOrder, Shape, orderNumber, shapeNumber, left}
-use Rattle.common.proofs.Cases.{by-bool, inside-low, inside-high}
+use Rattle.common.proofs.Cases.{by-bool, inside, inside-low, inside-high}
 
 pub power-most : (p n : ℕ) → p ≤ 16 → n ≤ 3 → p ^ n ≤ 4096
 power-most p n hp hn = le-trans (pow-le-pow-left hp n) (pow-le-pow-right {n = 16} (omega arith) hn)
@@ -49,6 +49,12 @@ shape-taken D p =
     })
     (λ e. rw e λ z. absurd (omega arith))
 
+-- a shape that is taken: what a call tests next decides
+pub shape-past : (D p rest : ℕ) → Shape D p → unless (isDimension D) noDimension (unless (isOrder p) noOrder rest) ≡ rest
+shape-past D p rest s = rw (inside 1 3 D (s .dimension-least) (s .dimension-most), inside 1 16 p (s .order-least) (s .order-most))
+
+-- WHAT A CALL LEAVES
+
 module _ {A : Type 0} where
   pub left-done : (n : ℕ) (result lent : A) → n ≡ 0 → left n result lent ≡ result
   unfolding left
@@ -57,3 +63,20 @@ module _ {A : Type 0} where
   pub left-refused : (n : ℕ) (result lent : A) → (n ≡ 0 → ⊥) → left n result lent ≡ lent
   unfolding left
   left-refused n result lent h = rw (ne-eqb n 0 h)
+
+-- a call with one lent buffer: its number r and the buffer after it
+module _ {A : Type 0} (r n : ℕ) (result lent : A) (e : r ≡ n) where
+  pub call-refused : (r ≡ 0 → ⊥) → _≡_ {A = ℕ × A} (r, lent) (n, left n result lent)
+  call-refused h = rw (left-refused n result lent (rw (← e) h), ← e)
+
+  pub call-done : (after : A) → r ≡ 0 → after ≡ result → _≡_ {A = ℕ × A} (0, after) (n, left n result lent)
+  call-done after z h = rw (left-done n result lent (rw (← e) z), ← e, z, h)
+
+-- and a call with two
+module _ {A B : Type 0} (r n : ℕ) (result lent : A) (result₂ lent₂ : B) (e : r ≡ n) where
+  pub call-refused₂ : (r ≡ 0 → ⊥) → _≡_ {A = ℕ × A × B} (r, lent, lent₂) (n, left n result lent, left n result₂ lent₂)
+  call-refused₂ h = rw (left-refused n result lent (rw (← e) h), left-refused n result₂ lent₂ (rw (← e) h), ← e)
+
+  pub call-done₂ : (after : A) (after₂ : B) → r ≡ 0 → after ≡ result → after₂ ≡ result₂ →
+      _≡_ {A = ℕ × A × B} (0, after, after₂) (n, left n result lent, left n result₂ lent₂)
+  call-done₂ after after₂ z h h₂ = rw (left-done n result lent (rw (← e) z), left-done n result₂ lent₂ (rw (← e) z), ← e, z, h, h₂)

@@ -45,3 +45,10 @@ term a i di b j dj s = times (getD a (i + di * s) nan) (getD b (j + dj * s) nan)
 
 abbrev pub dotOf : (n : ℕ) (a : List Float) (i di : ℕ) (b : List Float) (j dj : ℕ) → Float
 dotOf n a i di b j dj = sums n (term a i di b j dj)
+
+-- 2 ^ -20 and 2 ^ 30, the lengths between which a cell's must lie
+abbrev pub shortest₆₄ : Float
+shortest₆₄ = ofBits binary64 0x3eb0000000000000
+
+abbrev pub longest₆₄ : Float
+longest₆₄ = ofBits binary64 0x41d0000000000000

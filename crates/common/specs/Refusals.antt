@@ -1,8 +1,10 @@
 -- Refusals: the limits that calls share, and what a call answers and leaves in lent memory.
 use Prim.Native.Nat.{ℕ, _≤_}
-use mathlib.Core.Bool.{Bool, cond}
+use mathlib.Core.Bool.{Bool, cond, _&&_}
 use lib.Dec.{eqb}
+use lib.Ieee.{Float, le}
 use Rattle.common.specs.Tests.{within}
+use Rattle.common.specs.Floats.{shortest₆₄, longest₆₄}
 
 -- THE NUMBERS that a caller may meet; 0 is done
 
@@ -34,6 +36,10 @@ notZero = 6
 abbrev pub wrongLength : ℕ
 wrongLength = 7
 
+-- a cell's length is not from 2 ^ -20 to 2 ^ 30
+abbrev pub noCell : ℕ
+noCell = 8
+
 -- The number n unless the test holds, and then what is left to say. Calls test from the lowest number up, so the lowest wins.
 abbrev pub unless : Bool → ℕ → ℕ → ℕ
 unless holds n rest = cond holds rest n
@@ -45,6 +51,10 @@ isDimension D = within 1 3 D
 
 abbrev pub isOrder : ℕ → Bool
 isOrder p = within 1 16 p
+
+-- ends allowed; a NaN is at neither side of any number
+unfoldable pub isCell : Float → Bool
+isCell length = le shortest₆₄ length && le length longest₆₄
 
 pub record Shape (D p : ℕ) : Type 0 where
   pub dimension-least : 1 ≤ D

@@ -22,6 +22,8 @@ pub const NOT_ZERO: u8 = 6;
 
 pub const WRONG_LENGTH: u8 = 7;
 
+pub const NO_CELL: u8 = 8;
+
 // The refusal that an order brings, or 0.
 pub fn order_number(order: usize) -> u8
     ensures { λ r. ⌜ r ≡ orderNumber order ⌝ }

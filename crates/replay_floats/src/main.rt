@@ -4,11 +4,14 @@ mod case;
 mod float;
 mod line;
 mod operators;
+mod placed;
 mod polynomials;
 mod size;
 
 use blocks::replay_block;
 use operators::replay_operators;
+use placed::replay_sources;
+use placed::replay_targets;
 use polynomials::replay_nodes;
 use polynomials::replay_polynomials;
 
@@ -23,6 +26,8 @@ fn replay_case() -> bool {
         2 => replay_polynomials(&mut line, case),
         3 => replay_operators(&mut line, case.order),
         4 => replay_block(&mut line, case),
+        5 => replay_targets(&mut line, case),
+        6 => replay_sources(&mut line, case),
         _ => line::put_unknown(&mut line, kind),
     };
     line::print(&mut line, to)

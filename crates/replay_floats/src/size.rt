@@ -22,3 +22,10 @@ pub fn block(dimension: usize, order: usize) -> usize
         _ => 0,
     }
 }
+
+// How many coordinates the points of a block have.
+pub fn coordinates(dimension: usize, order: usize) -> usize
+    ensures { λ r. ⌜ r ≤ 12288 ⌝ }
+{
+    up_to(3, dimension) * block(dimension, order)
+}

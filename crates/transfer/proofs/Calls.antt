@@ -12,7 +12,7 @@ use Rattle.common.specs.Lists.{stretch}
 use Rattle.common.specs.Matrices.{columnMajor}
 use Rattle.common.specs.Refusals.{isDimension, isOrder, Shape, orderNumber, shapeNumber}
 use Rattle.common.proofs.Cases.{by-bool, inside-low, inside-high}
-use Rattle.common.proofs.Limits.{order-in, order-out, shape-in, shape-out, shape-taken, left-done, left-refused}
+use Rattle.common.proofs.Limits.{order-in, order-out, shape-in, shape-out, shape-taken, call-refused, call-done, call-refused₂, call-done₂}
 use Rattle.transfer.specs.Operators.{operator, operatorsNumber, operatorsCall}
 use Rattle.transfer.specs.Tensor.{along, ends, transferNumber, transferred, transferCall}
 use Rattle.transfer.proofs.Passes.{copied}
@@ -73,13 +73,11 @@ module _ (p n t o : ℕ) where
 module _ (p : ℕ) (n t o : List Float) (r : ℕ) (e : r ≡ operatorsNumber p (length n) (length t) (length o)) where
   pub operators-refused : (r ≡ 0 → ⊥) → (r, o) ≡ operatorsCall p n t o
   unfolding operatorsCall
-  operators-refused h =
-      rw (left-refused (operatorsNumber p (length n) (length t) (length o)) (columnMajor p (p + p) (operator p n t)) o (rw (← e) h), ← e)
+  operators-refused = call-refused r _ (columnMajor p (p + p) (operator p n t)) o e
 
   pub operators-done : (o' : List Float) → r ≡ 0 → o' ≡ columnMajor p (p + p) (operator p n t) → (0, o') ≡ operatorsCall p n t o
   unfolding operatorsCall
-  operators-done o' z h =
-      rw (left-done (operatorsNumber p (length n) (length t) (length o)) (columnMajor p (p + p) (operator p n t)) o (rw (← e) z), ← e, z, h)
+  operators-done = call-done r _ (columnMajor p (p + p) (operator p n t)) o e
 
 -- THE TENSOR TRANSFER
 
@@ -152,21 +150,15 @@ module _ (D p child i o f s : ℕ) where
 module _ (D p child : ℕ) (transpose : Bool) (i o f s : List Float) (r : ℕ) (e : r ≡ transferNumber D p child (length i) (length o) (length f) (length s)) where
   pub transfer-refused : (r ≡ 0 → ⊥) → (r, f, s) ≡ transferCall D p child transpose i o f s
   unfolding transferCall
-  transfer-refused h =
-      let n = transferNumber D p child (length i) (length o) (length f) (length s) in
-      let some : n ≡ 0 → ⊥ = rw (← e) h in
-      rw (left-refused n (transferred D p child transpose i o s .0) f some, left-refused n (transferred D p child transpose i o s .1) s some, ← e)
+  transfer-refused = call-refused₂ r _ (transferred D p child transpose i o s .0) f (transferred D p child transpose i o s .1) s e
 
   -- the passes start from a copy of the input
   pub transfer-done : (start f' s' : List Float) → r ≡ 0 → start ≡ stretch 0 (length i) (λ k. getD i k nan) f →
       (f', s') ≡ ends (along p (p ^ (D - 1)) child transpose o) D start s → (0, f', s') ≡ transferCall D p child transpose i o f s
   unfolding transferCall transferred
   transfer-done start f' s' z hs h =
-      let n = transferNumber D p child (length i) (length o) (length f) (length s) in
-      let done : n ≡ 0 = rw (← e) z in
-      let taken = transfer-accepted D p child (length i) (length o) (length f) (length s) done in
+      let taken = transfer-accepted D p child (length i) (length o) (length f) (length s) (rw (← e) z) in
       let begun : start ≡ i = hs ∙ copied i f (taken .first ∙ sym (taken .input)) in
       let made : (f', s') ≡ transferred D p child transpose i o s = rw (← begun) h in
-      let one : f' ≡ transferred D p child transpose i o s .0 = ap (λ (x : List Float × List Float). x .0) made in
-      let two : s' ≡ transferred D p child transpose i o s .1 = ap (λ (x : List Float × List Float). x .1) made in
-      rw (left-done n (transferred D p child transpose i o s .0) f done, left-done n (transferred D p child transpose i o s .1) s done, ← e, z, one, two)
+      call-done₂ r _ (transferred D p child transpose i o s .0) f (transferred D p child transpose i o s .1) s e f' s' z
+      (ap (λ (x : List Float × List Float). x .0) made) (ap (λ (x : List Float × List Float). x .1) made)

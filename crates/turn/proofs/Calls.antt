@@ -10,7 +10,7 @@ use borrow.Author.Tests.{eqb-true, lt-ltb, le-ltb, eq-eqb, ne-eqb}
 use Rattle.common.specs.Lists.{tabulate, stores}
 use Rattle.common.specs.Refusals.{isDimension, isOrder, Shape, orderNumber, shapeNumber}
 use Rattle.common.proofs.Cases.{by-bool}
-use Rattle.common.proofs.Limits.{shape-out, shape-in, shape-taken, left-done, left-refused}
+use Rattle.common.proofs.Limits.{shape-out, shape-in, shape-taken, call-refused, call-done}
 use Rattle.common.proofs.Stores.{stores-all}
 use Rattle.turn.specs.Turned.{turned, returned}
 use Rattle.turn.specs.Tables.{cases, tableNumber, tableCall}
@@ -71,10 +71,10 @@ walked-table true D p k l ok =
     (λ n _. turned-below D p k o n) (ok .whole)
 
 module _ (D p k : ℕ) (f : ℕ → ℕ) (l : List ℕ) (r : ℕ) (e : r ≡ tableNumber D p k (length l)) where
-  pub call-refused : (r ≡ 0 → ⊥) → (r, l) ≡ tableCall D p k f l
+  pub table-refused : (r ≡ 0 → ⊥) → (r, l) ≡ tableCall D p k f l
   unfolding tableCall
-  call-refused h = rw (left-refused (tableNumber D p k (length l)) (tabulate (p ^ D) f) l (rw (← e) h), ← e)
+  table-refused = call-refused r _ (tabulate (p ^ D) f) l e
 
-  pub call-done : (l' : List ℕ) → r ≡ 0 → l' ≡ tabulate (p ^ D) f → (0, l') ≡ tableCall D p k f l
+  pub table-done : (l' : List ℕ) → r ≡ 0 → l' ≡ tabulate (p ^ D) f → (0, l') ≡ tableCall D p k f l
   unfolding tableCall
-  call-done l' z h = rw (left-done (tableNumber D p k (length l)) (tabulate (p ^ D) f) l (rw (← e) z), ← e, z, h)
+  table-done = call-done r _ (tabulate (p ^ D) f) l e

@@ -5,7 +5,8 @@
 
 use super::{
     apply_cheb_tensor_transfer, evaluate_chebyshev_polynomials, generate_chebyshev_nodes,
-    get_m2l_vectors, get_m2m_transfer_operators, get_permutation_lookups,
+    generate_chebyshev_source_points, generate_chebyshev_target_points, get_m2l_vectors,
+    get_m2m_transfer_operators, get_permutation_lookups,
 };
 use faer::{Mat, MatRef};
 
@@ -109,4 +110,25 @@ pub fn transferred(block: &Block) -> Vec<f64> {
         block.transpose,
     );
     entries(&scratch[0])
+}
+
+/// Asks the text for the points of a target block.
+pub fn target_points(dimension: usize, length: f64, nodes: &[f64]) -> Vec<f64> {
+    entries(&generate_chebyshev_target_points(
+        &nodes.to_vec(),
+        &dimension,
+        &length,
+    ))
+}
+
+/// Asks the text for the points of a source block, at the reference vector with that number.
+pub fn source_points(dimension: usize, length: f64, reference: usize, nodes: &[f64]) -> Vec<f64> {
+    let (_, references) = get_m2l_vectors(&dimension);
+    entries(&generate_chebyshev_source_points(
+        &nodes.to_vec(),
+        references.row(reference),
+        &nodes.len(),
+        &dimension,
+        &length,
+    ))
 }

@@ -3,7 +3,7 @@ use mathlib.Core.Path.{sym, _∙_}
 use borrow.Author.Needs.{needs}
 use lib.ListN.{length}
 use Rattle.turn.specs.Working.{tableEntry}
-use Rattle.turn.proofs.Calls.{Accepted, accepted, walked-table, call-refused, call-done}
+use Rattle.turn.proofs.Calls.{Accepted, accepted, walked-table, table-refused, table-done}
 use Rattle.turn.proofs.tables.permutation.Statement.{statement}
 use Rattle.turn.proofs.tables.permutation.Tie as tie
 
@@ -13,7 +13,7 @@ table-number-requires c κs = search needs
 returns : tie.Need-returns
 returns c =
     let a = c .before .before .before .args in
-    call-refused (a .dimension) (a .order) (a .case) (tableEntry (a .inverse) (a .dimension) (a .order) (a .case)) (a .table .now) (c .before .table-number .result)
+    table-refused (a .dimension) (a .order) (a .case) (tableEntry (a .inverse) (a .dimension) (a .order) (a .case)) (a .table .now) (c .before .table-number .result)
     (c .before .table-number .ensures) (c .if1 .taken)
 
 -- past the test the table has a place for each node
@@ -33,7 +33,7 @@ returns-2 : tie.Need-returns-2
 returns-2 c =
     let e = c .before .before .before .before in
     let a = e .before .before .before .args in
-    call-done (a .dimension) (a .order) (a .case) (tableEntry (a .inverse) (a .dimension) (a .order) (a .case)) (a .table .now) (e .before .table-number .result)
+    table-done (a .dimension) (a .order) (a .case) (tableEntry (a .inverse) (a .dimension) (a .order) (a .case)) (a .table .now) (e .before .table-number .result)
     (e .before .table-number .ensures) _ (e .if1 .left)
     (c .before .before .fill .ensures ∙ walked-table (a .inverse) (a .dimension) (a .order) (a .case) (a .table .now) (ok e))
 

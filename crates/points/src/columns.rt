@@ -23,7 +23,7 @@ fn fill_cycle(order: usize, run: usize, values: &[f64; 16], at: usize, points: &
 
 // The column of an axis, from place `at` on: as many cycles as there are nodes on the axes before it together, and
 // runs as long as there are nodes on the axes after it.
-pub fn fill_column(
+pub(crate) fn fill_column(
     dimension: usize,
     order: usize,
     axis: usize,

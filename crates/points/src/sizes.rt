@@ -21,7 +21,13 @@ fn is_cell(length: f64) -> bool
 }
 
 // The refusal that the lengths of nodes and points and the cell's length bring, or 0.
-pub fn sizes_number(dimension: usize, order: usize, length: f64, nodes: usize, points: usize) -> u8
+pub(crate) fn sizes_number(
+    dimension: usize,
+    order: usize,
+    length: f64,
+    nodes: usize,
+    points: usize,
+) -> u8
     requires { ⌜ Shape dimension order ⌝ }
     ensures { λ r. ⌜ r ≡ sizesNumber dimension order length nodes points ⌝ }
 {

@@ -2,7 +2,7 @@
 use mathlib.Core.Path.{_≡_, sym, ap, _∙_}
 use mathlib.Core.List.{List}
 use Prim.Native.Nat.{ℕ, suc, _+_, _-_, _*_, _/_, _%_, _^_, _<_, _≤_}
-use native.Mathlib.Nat.{mul-le-mul, mul-assoc, mul-add-div-right, mul-add-mod-self-right, mod-eq-of-lt, div-lt-iff-lt-mul, pow-succ'}
+use native.Mathlib.Nat.{mul-le-mul, mul-one, div-one, mul-assoc, mul-add-div-right, mul-add-mod-self-right, mod-eq-of-lt, div-lt-iff-lt-mul, pow-succ'}
 use native.Mathlib.Omega.{arith}
 use lib.Arith.{digits-div}
 use lib.Ieee.{Float, nan}
@@ -12,7 +12,7 @@ use Rattle.common.specs.Digits.{digit}
 use Rattle.common.specs.Lists.{stretch}
 use Rattle.common.specs.Matrices.{cell, columnMajor}
 use Rattle.common.proofs.Digits.{digit-below}
-use Rattle.common.proofs.Fill.{fill-read, fill-all}
+use Rattle.common.proofs.Fill.{tabulate-cong, fill-read, fill-all}
 use Rattle.common.proofs.Limits.{power-most}
 use Rattle.common.proofs.Matrices.{cell-at, some-rows}
 use Rattle.common.proofs.Steps.{Stepping, stepping-more}
@@ -22,6 +22,11 @@ use Rattle.points.specs.Working.{cycled, indexed}
 -- run i of a cycle holds value i
 pub run-value : (run : ℕ) (values : List Float) (i j : ℕ) → j < run → getD values i nan ≡ cycled run values (i * run + j)
 run-value run values i j h = rw (digits-div i h)
+
+-- where a run has one place, a cycle is the values themselves
+pub short-cycle : (p run at : ℕ) (values l : List Float) → run ≡ 1 → stretch at p (λ i. getD values i nan) l ≡ stretch at (p * run) (cycled run values) l
+short-cycle p run at values l e =
+    rw (e, mul-one, tabulate-cong p (cycled 1 values) (λ i. getD values i nan) (λ i _. ap (λ (k : ℕ). getD values k nan) (div-one i)))
 
 -- place j of cycle k is row k * (p * run) + j: the index there goes by j alone
 index-in : (p run k j : ℕ) → j < p * run → (k * (p * run) + j) / run % p ≡ j / run

@@ -2,13 +2,14 @@
 // cycle, and the cycle repeats down the column. So nothing is divided, and each value is computed once.
 ghost use mathlib.Core.Path.{_≡_};
 ghost use Prim.Native.Nat.{_+_, _*_, _^_, _<_, _≤_};
-ghost use lib.ListN.{length};
+ghost use lib.Ieee.{nan};
+ghost use lib.ListN.{length, getD};
 ghost use Rattle.common.specs.Lists.{stretch};
 ghost use Rattle.common.specs.Refusals.{Shape};
 ghost use Rattle.points.specs.Working.{cycled, indexed};
 
 // A run of each value, from place `at` on.
-fn fill_cycle(order: usize, run: usize, values: &[f64; 16], at: usize, points: &mut [f64])
+fn fill_runs(order: usize, run: usize, values: &[f64; 16], at: usize, points: &mut [f64])
     requires { ⌜ (order ≤ 16) × (at + order * run ≤ length (now points)) ⌝ }
     ensures { λ _. ⌜ now (points .exit) ≡ stretch at (order * run) (cycled run (now (values .entry))) (now (points .entry)) ⌝ }
 {
@@ -18,6 +19,30 @@ fn fill_cycle(order: usize, run: usize, values: &[f64; 16], at: usize, points: &
         common::fill_with(values[i], run, to, points);
         to += run;
         i += 1;
+    }
+}
+
+// The values themselves, from place `at` on.
+fn copy_values(order: usize, values: &[f64; 16], at: usize, points: &mut [f64])
+    requires { ⌜ (order ≤ 16) × (at + order ≤ length (now points)) ⌝ }
+    ensures { λ _. ⌜ now (points .exit) ≡ stretch at order (λ i. getD (now (values .entry)) i nan) (now (points .entry)) ⌝ }
+{
+    let mut i = 0;
+    while i < order {
+        points[at + i] = values[i];
+        i += 1;
+    }
+}
+
+// A cycle. On the last axis a run has one place, and a loop for each run would cost more than the copy.
+fn fill_cycle(order: usize, run: usize, values: &[f64; 16], at: usize, points: &mut [f64])
+    requires { ⌜ (order ≤ 16) × (at + order * run ≤ length (now points)) ⌝ }
+    ensures { λ _. ⌜ now (points .exit) ≡ stretch at (order * run) (cycled run (now (values .entry))) (now (points .entry)) ⌝ }
+{
+    if run == 1 {
+        copy_values(order, values, at, points);
+    } else {
+        fill_runs(order, run, values, at, points);
     }
 }
 

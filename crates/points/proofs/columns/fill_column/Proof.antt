@@ -1,8 +1,9 @@
 -- `points::columns::fill_column` meets its contract. The loop keeps `Stepping`: the first k cycles are filled. Assumes nothing.
 use borrow.Author.Needs.{needs}
 use mathlib.Core.Path.{_≡_, ap, _∙_}
-use Prim.Native.Nat.{ℕ, _-_, _*_, _^_}
+use Prim.Native.Nat.{ℕ, _+_, _-_, _*_, _^_, _≤_}
 use native.Mathlib.Omega.{arith}
+use lib.ListN.{length}
 use Rattle.common.specs.Lists.{stretch}
 use Rattle.common.proofs.Steps.{Stepping, stepping-none, stepping-fits, stepping-more, stepping-done}
 use Rattle.points.specs.Working.{indexed}
@@ -25,6 +26,14 @@ whole c =
     let a = s .args in
     column-whole (a .dimension) (a .order) (a .axis) _ _ (s .pre .1) (c .before .before .power .ensures) (c .before .power2 .ensures)
 
+-- there is room for the cycle
+room : (c : tie.In-loop Inv-loop μ-loop) → c .before .loop .to + c .before .before .before .before .before .args .order * c .before .before .power2 .result ≤ length (c .before .loop .points)
+room c =
+    let l = c .before .loop in
+    let s = c .before .before .before .before .before in
+    let a = s .args in
+    omega (arith, stepping-fits (a .at) _ _ (indexed (a .dimension) (a .order) (a .axis) (a .values .now)) _ _ _ _ (l .inv) (c .loop-test .taken), whole (c .before), l .inv .long, s .pre .2)
+
 power-requires : tie.Need-power-requires Inv-loop μ-loop
 power-requires c κs = let s = c .before in (s .pre .0 .order-most, omega (arith, s .pre .0 .dimension-most, s .pre .1))
 
@@ -44,20 +53,10 @@ loop-holds : tie.Need-loop-holds Inv-loop μ-loop
 loop-holds c = let a = c .before .before .before .args in stepping-none (a .at) _ _ (indexed (a .dimension) (a .order) (a .axis) (a .values .now)) _
 
 fill-cycle-requires : tie.Need-fill-cycle-requires Inv-loop μ-loop
-fill-cycle-requires c κs =
-    let i = c .before in
-    let l = i .before .loop in
-    let s = i .before .before .before .before .before in
-    let a = s .args in
-    (s .pre .0 .order-most, omega (arith, stepping-fits (a .at) _ _ (indexed (a .dimension) (a .order) (a .axis) (a .values .now)) _ _ _ _ (l .inv) (i .loop-test .taken), whole (i .before), l .inv .long, s .pre .2))
+fill-cycle-requires c κs = let i = c .before in (i .before .before .before .before .before .pre .0 .order-most, room i)
 
 add-to : tie.Need-add-to Inv-loop μ-loop
-add-to c =
-    let i = c .before .before .before .before in
-    let l = i .before .loop in
-    let s = i .before .before .before .before .before in
-    let a = s .args in
-    omega (arith, stepping-fits (a .at) _ _ (indexed (a .dimension) (a .order) (a .axis) (a .values .now)) _ _ _ _ (l .inv) (i .loop-test .taken), whole (i .before), s .pre .2, s .good)
+add-to c = let i = c .before .before .before .before in omega (arith, room i, i .before .loop .inv .long, i .before .before .before .before .before .good)
 
 add-k : tie.Need-add-k Inv-loop μ-loop
 add-k c = search needs

@@ -1,80 +1,37 @@
--- `points::columns::fill_cycle` meets its contract. The loop keeps `Stepping`: the runs of the first i values are filled. Assumes nothing.
+-- `points::columns::fill_cycle` meets its contract: by the run's length. Assumes nothing.
 use borrow.Author.Needs.{needs}
-use Prim.Native.Nat.{_-_}
+use mathlib.Core.Path.{_≡_, _∙_}
+use Prim.Native.Nat.{_*_}
+use native.Mathlib.Nat.{mul-one}
 use native.Mathlib.Omega.{arith}
-use Rattle.common.proofs.Steps.{Stepping, stepping-none, stepping-fits, stepping-more, stepping-done}
-use Rattle.points.specs.Working.{cycled}
-use Rattle.points.proofs.Places.{run-value}
+use Rattle.points.proofs.Places.{short-cycle}
 use Rattle.points.proofs.columns.fill_cycle.Statement.{statement}
 use Rattle.points.proofs.columns.fill_cycle.Tie as tie
 
-abbrev Inv-loop : tie.InvT-loop
-Inv-loop order run values at points₀ i₀ to₀ points i to = Stepping at order run (cycled run values) points₀ points i to
+copy-values-requires : tie.Need-copy-values-requires
+copy-values-requires c κs =
+    let s = c .before .before .before in
+    let one : s .args .order * s .args .run ≡ s .args .order = rw (c .before .if1 .taken, mul-one) in
+    (s .pre .0, omega (arith, one, s .pre .1))
 
-abbrev μ-loop : tie.MeasureT-loop
-μ-loop order run values at points₀ i₀ to₀ points i to = order - i
+fill-runs-requires : tie.Need-fill-runs-requires
+fill-runs-requires c κs = search needs
 
-loop-holds : tie.Need-loop-holds Inv-loop μ-loop
-loop-holds c = let a = c .before .args in stepping-none (a .at) (a .order) (a .run) (cycled (a .run) (a .values .now)) _
+same-length : tie.Need-same-length
+same-length c = search needs
 
-mul-fill-with : tie.Need-mul-fill-with Inv-loop μ-loop
-mul-fill-with c = search needs
-
-element-copy-out-fill-with : tie.Need-element-copy-out-fill-with Inv-loop μ-loop
-element-copy-out-fill-with c = search needs
-
-fill-with-requires : tie.Need-fill-with-requires Inv-loop μ-loop
-fill-with-requires c κs =
-    let i = c .before .before in
-    let l = i .before .loop in
-    let s = i .before .before .before in
-    let a = s .args in
-    omega (arith, stepping-fits (a .at) (a .order) (a .run) (cycled (a .run) (a .values .now)) _ _ _ _ (l .inv) (i .loop-test .taken), l .inv .long, s .pre .1)
-
-add-to : tie.Need-add-to Inv-loop μ-loop
-add-to c =
-    let i = c .before .before .before .before .before in
-    let l = i .before .loop in
-    let s = i .before .before .before in
-    let a = s .args in
-    omega (arith, stepping-fits (a .at) (a .order) (a .run) (cycled (a .run) (a .values .now)) _ _ _ _ (l .inv) (i .loop-test .taken), s .pre .1, s .good)
-
-add-i : tie.Need-add-i Inv-loop μ-loop
-add-i c = search needs
-
-loop-less : tie.Need-loop-less Inv-loop μ-loop
-loop-less c = search needs
-
-loop-again : tie.Need-loop-again Inv-loop μ-loop
-loop-again c =
-    let i = c .before .before .before .before .before in
-    let l = i .before .loop in
-    let s = i .before .before .before in
-    let a = s .args in
-    stepping-more (a .at) (a .order) (a .run) (cycled (a .run) (a .values .now)) _ _ _ _ _ _ (l .inv) (i .loop-test .taken) (s .pre .1)
-    (λ j h. run-value (a .run) (a .values .now) (l .i) j h) (c .before .before .fill-with .ensures)
-
-same-length : tie.Need-same-length Inv-loop μ-loop
-same-length c = c .before .loop .inv .long
-
-returns : tie.Need-returns Inv-loop μ-loop
+returns : tie.Need-returns
 returns c =
-    let a = c .before .before .before .args in
-    stepping-done (a .at) (a .order) (a .run) (cycled (a .run) (a .values .now)) _ _ _ _ (c .before .loop .inv) (c .loop-test .left)
+    let a = c .before .before .before .before .before .before .args in
+    c .before .before .copy-values .ensures ∙ short-cycle (a .order) (a .run) (a .at) (a .values .now) (a .points .now) (c .before .before .before .before .if1 .taken)
+
+same-length-2 : tie.Need-same-length-2
+same-length-2 c = search needs
+
+returns-2 : tie.Need-returns-2
+returns-2 c = search needs
 
 pub fill-cycle-spec : {M : Type 1} → statement M
 fill-cycle-spec =
     tie.close
-    (tie.spec
-    Inv-loop
-    μ-loop
-    loop-holds
-    mul-fill-with
-    element-copy-out-fill-with
-    fill-with-requires
-    add-to
-    add-i
-    loop-less
-    loop-again
-    same-length
-    returns)
+    (tie.spec copy-values-requires fill-runs-requires same-length returns same-length-2 returns-2)

@@ -2,7 +2,6 @@
 use borrow.Author.Needs.{needs}
 use mathlib.Core.Path.{_≡_, sym, _∙_}
 use native.Mathlib.Omega.{arith}
-use lib.ListN.{length}
 use Rattle.common.specs.Refusals.{Shape}
 use Rattle.common.proofs.Limits.{shape-taken}
 use Rattle.turn.specs.LookUps.{referenceCall}
@@ -26,7 +25,8 @@ returns : tie.Need-returns
 returns c =
     let a = c .before .before .before .before .args in
     let e = c .before .shape-number .ensures in
-    source-refused (a .dimension) (a .order) (a .length) (a .reference) (a .nodes .now) (a .points .now) _ (e ∙ source-shape (a .dimension) (a .order) (a .length) (a .reference) (length (a .nodes .now)) (length (a .points .now)) (rw e at (c .if1 .taken))) (c .if1 .taken)
+    source-refused (a .dimension) (a .order) (a .length) (a .reference) (a .nodes .now) (a .points .now) _
+    (e ∙ source-shape _ _ _ _ _ _ (rw e at (c .if1 .taken))) (c .if1 .taken)
 
 reference-vector-requires : tie.Need-reference-vector-requires
 reference-vector-requires c κs = search needs
@@ -41,7 +41,8 @@ returns-2 : tie.Need-returns-2
 returns-2 c =
     let a = c .before .before .before .before .before .before .before .args in
     let none = sym (c .enum-told .given .1) ∙ c .before .before .reference-vector .ensures in
-    source-refused (a .dimension) (a .order) (a .length) (a .reference) (a .nodes .now) (a .points .now) _ (source-case (a .dimension) (a .order) (a .length) (a .reference) (length (a .nodes .now)) (length (a .points .now)) (shape (c .before .before .before)) _ none) (λ z. omega arith)
+    source-refused (a .dimension) (a .order) (a .length) (a .reference) (a .nodes .now) (a .points .now) _
+    (source-case _ _ _ _ _ _ (shape (c .before .before .before)) _ none) (λ z. omega arith)
 
 sizes-number-requires : tie.Need-sizes-number-requires
 sizes-number-requires c κs = shape (c .before .before .before .before)
@@ -49,12 +50,12 @@ sizes-number-requires c κs = shape (c .before .before .before .before)
 returns-3 : tie.Need-returns-3
 returns-3 c =
     let a = c .before .before .before .before .before .before .before .before .before .before .args in
-    source-refused (a .dimension) (a .order) (a .length) (a .reference) (a .nodes .now) (a .points .now) _ (c .before .sizes-number .ensures ∙ source-sizes (a .dimension) (a .order) (a .length) (a .reference) (length (a .nodes .now)) (length (a .points .now)) (shape (c .before .before .before .before .before .before)) _ (found (c .before .before .before))) (c .if2 .taken)
+    source-refused (a .dimension) (a .order) (a .length) (a .reference) (a .nodes .now) (a .points .now) _
+    (c .before .sizes-number .ensures ∙ source-sizes _ _ _ _ _ _ (shape (c .before .before .before .before .before .before)) _ (found (c .before .before .before))) (c .if2 .taken)
 
 fill-sources-requires : tie.Need-fill-sources-requires
 fill-sources-requires c κs =
-    let a = c .before .before .before .before .before .before .before .before .before .before .before .args in
-    sizes-taken (a .dimension) (a .order) (a .length) (length (a .nodes .now)) (length (a .points .now)) (shape (c .before .before .before .before .before .before .before)) (sym (c .before .before .sizes-number .ensures) ∙ c .before .if2 .left)
+    sizes-taken _ _ _ _ _ (shape (c .before .before .before .before .before .before .before)) (sym (c .before .before .sizes-number .ensures) ∙ c .before .if2 .left)
 
 same-length : tie.Need-same-length
 same-length c = search needs
@@ -64,7 +65,9 @@ returns-4 c =
     let a = c .before .before .before .before .before .before .before .before .before .before .before .before .before .before .args in
     let s = shape (c .before .before .before .before .before .before .before .before .before .before) in
     let h = found (c .before .before .before .before .before .before .before) in
-    source-done (a .dimension) (a .order) (a .length) (a .reference) (a .nodes .now) (a .points .now) _ (c .before .before .before .before .before .sizes-number .ensures ∙ source-sizes (a .dimension) (a .order) (a .length) (a .reference) (length (a .nodes .now)) (length (a .points .now)) s _ h) _ _ s h (c .before .before .before .before .if2 .left) (c .before .before .fill-sources .ensures)
+    source-done (a .dimension) (a .order) (a .length) (a .reference) (a .nodes .now) (a .points .now) _
+    (c .before .before .before .before .before .sizes-number .ensures ∙ source-sizes _ _ _ _ _ _ s _ h)
+    _ _ s h (c .before .before .before .before .if2 .left) (c .before .before .fill-sources .ensures)
 
 pub generate-chebyshev-source-points-spec : {M : Type 1} → statement M
 generate-chebyshev-source-points-spec =

@@ -46,7 +46,8 @@ pub nodes-right : (p i : ℕ) → 1 ≤ p → p ≤ 16 → i < p → Node p i
 unfolding right exactly rising crossing
 nodes-right zero i l u h = absurd (not-suc-le-zero l)
 nodes-right (suc q) i l u h =
-    let here : right (suc q) i ≡ true = each-at (suc q) (right (suc q)) (each-at 16 (λ r. each (suc r) (right (suc r))) all-right q (omega arith)) i h in
+    let here : right (suc q) i ≡ true = each-at (suc q) (right (suc q))
+    (each-at 16 (λ r. each (suc r) (right (suc r))) all-right q (omega arith)) i h in
     let one = and-eq-true-iff (exactly (suc q) i) (rising (suc q) i && crossing (suc q) i) .0 here in
     let two = and-eq-true-iff (rising (suc q) i) (crossing (suc q) i) .0 (one .1) in
     record {

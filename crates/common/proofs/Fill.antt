@@ -33,7 +33,8 @@ module _ {A : Type 0} where
   tabulate-add : (n m : ℕ) (f : ℕ → A) → tabulate (n + m) f ≡ tabulate n f ++ tabulate m (λ i. f (n + i))
   tabulate-add zero m f = rw zero-add (tabulate-cong m f (λ i. f (0 + i)) (λ i l. ap f (sym (zero-add i))))
   tabulate-add (suc n) m f =
-      let later : tabulate (n + m) (λ k. f (suc k)) ≡ tabulate n (λ k. f (suc k)) ++ tabulate m (λ i. f (suc (n + i))) = tabulate-add n m (λ k. f (suc k)) in
+      let later : tabulate (n + m) (λ k. f (suc k)) ≡ tabulate n (λ k. f (suc k)) ++ tabulate m (λ i. f (suc (n + i))) = tabulate-add n m
+      (λ k. f (suc k)) in
       let same : tabulate m (λ i. f (suc (n + i))) ≡ tabulate m (λ i. f (suc n + i)) =
       tabulate-cong m (λ i. f (suc (n + i))) (λ i. f (suc n + i)) (λ i l. ap f (sym (suc-add n i))) in
       rw suc-add (ap (λ (t : List A). f zero ∷ t) (rw (sym same) later))
@@ -57,7 +58,8 @@ module _ {A : Type 0} where
     pub stretch-more : (m : ℕ) (d v : A) → n + m < length l → v ≡ f m → set (stretch n m f l) (n + m) v ≡ stretch n (m + 1) f l
     stretch-more m d v h e =
         let next : n + (m + 1) ≡ suc (n + m) = omega arith in
-        rw (e, ← append-assoc, drop-cons l (n + m) d h, set-at (take n l ++ tabulate m f) (getD l (n + m) d) (drop (suc (n + m)) l) (f m) (n + m) (head-length m (omega arith)))
+        rw
+        (e, ← append-assoc, drop-cons l (n + m) d h, set-at (take n l ++ tabulate m f) (getD l (n + m) d) (drop (suc (n + m)) l) (f m) (n + m) (head-length m (omega arith)))
         (rw (tabulate-last m f, next, append-assoc, append-assoc))
 
     -- what stands before it
@@ -94,7 +96,8 @@ module _ {A : Type 0} where
       let t : n ≤ length l = omega arith in
       let front : take n (stretch n m f l) ≡ take n l = take-at (take n l) (tabulate m f ++ drop (n + m) l) n (length-take-le n l t) in
       let past : drop (n + m) (stretch n m f l) ≡ drop (n + m) l =
-      ap (drop (n + m)) (sym (append-assoc (take n l) (tabulate m f) (drop (n + m) l))) ∙ drop-at (take n l ++ tabulate m f) (drop (n + m) l) (n + m) (head-length n f l m h) in
+      ap (drop (n + m)) (sym (append-assoc (take n l) (tabulate m f) (drop (n + m) l))) ∙ drop-at (take n l ++ tabulate m f)
+      (drop (n + m) l) (n + m) (head-length n f l m h) in
       rw (front, past)
 
   -- the next stretch goes on where the last ended

@@ -9,6 +9,7 @@ use lib.ListN.{length, getD, take, drop, length-drop}
 use lib.Seq.{take-all}
 use Rattle.common.specs.Floats.{dotOf}
 use Rattle.common.specs.Lists.{tabulate, stretch}
+use Rattle.common.specs.Refusals.{Shape}
 use Rattle.common.specs.Matrices.{cell, columnMajor}
 use Rattle.common.proofs.Fill.{fill-on, fill-all}
 use Rattle.common.proofs.Matrices.{column-fits, cell-at}
@@ -62,7 +63,8 @@ module _ (p side : ℕ) (l : List Float) (two : side < 2) (e : length l ≡ (p +
 
   block-length : p * p ≤ length (take (length l - side * (p * p)) (drop (side * (p * p)) l))
   block-length =
-      let long : length (take (length l - side * (p * p)) (drop (side * (p * p)) l)) ≡ length l - side * (p * p) = ap length (rest l (side * (p * p))) ∙ length-drop (side * (p * p)) l in
+      let long : length (take (length l - side * (p * p)) (drop (side * (p * p)) l)) ≡ length l - side * (p * p) = ap length
+      (rest l (side * (p * p))) ∙ length-drop (side * (p * p)) l in
       let h = start-most in
       let both : (p + p) * p ≡ p * p + p * p = add-mul p p p in
       omega arith
@@ -89,11 +91,17 @@ module _ (pass : ℕ → ℕ → List Float → List Float) (D w v : ℕ) (wide 
   axes-three f s t e hs hf ht = rw (ht, hf, hs, wide, e)
 
 -- as p rows and p ^ (D - 1) columns, and the other way
-pub as-rows : (p D : ℕ) → 1 ≤ D → p ^ D ≡ p ^ (D - 1) * p
+as-rows : (p D : ℕ) → 1 ≤ D → p ^ D ≡ p ^ (D - 1) * p
 as-rows p D l = let e : D ≡ suc (D - 1) = omega arith in ap (λ (k : ℕ). p ^ k) e ∙ pow-suc p (D - 1)
 
-pub as-columns : (p D : ℕ) → 1 ≤ D → p ^ D ≡ p * p ^ (D - 1)
+as-columns : (p D : ℕ) → 1 ≤ D → p ^ D ≡ p * p ^ (D - 1)
 as-columns p D l = as-rows p D l ∙ mul-comm (p ^ (D - 1)) p
+
+-- what a pass along an axis asks for, where both buffers have p ^ D entries
+pub pass-ready : (D p w axis o v t : ℕ) → Shape D p → o ≡ (p + p) * p → w ≡ p ^ (D - 1) → axis ≤ 2 → v ≡ p ^ D → t ≡ p ^ D →
+    (p ≤ 16) × (axis ≤ 2) × (o ≡ (p + p) * p) × (v ≡ w * p) × (t ≡ p * w)
+pass-ready D p w axis o v t s ho hw ha hv ht =
+    (s .order-most, ha, ho, rw hw (hv ∙ as-rows p D (s .dimension-least)), rw hw (ht ∙ as-columns p D (s .dimension-least)))
 
 -- a list is what its entries are, and so is a copy of it over another of its length
 entries : (l : List Float) → tabulate (length l) (λ i. getD l i nan) ≡ l

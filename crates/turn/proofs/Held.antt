@@ -238,7 +238,8 @@ unfolding digitsNumber lookUpNumber atMost
 number-held D v =
     rw (
       each-cong D (λ a. ltb (three (digitsOf v) a) 7) (λ a. leb (natAbs (entries v a)) 3) (λ a _. range-held v a),
-      each-cong (3 - D) (λ a. eqb (three (digitsOf v) (D + a)) 3) (λ a. leb (natAbs (entries v (D + a))) 0) (λ a l. zero-held v (D + a) (omega arith)),
+      each-cong (3 - D) (λ a. eqb (three (digitsOf v) (D + a)) 3) (λ a. leb (natAbs (entries v (D + a))) 0)
+          (λ a l. zero-held v (D + a) (omega arith)),
     )
 
 -- as the program finds it: one number a digit, the lowest of them

@@ -48,7 +48,8 @@ loop-again : tie.Need-loop-again Inv-loop μ-loop
 loop-again c =
     let t = c .before in
     let s = t .before .before .before in
-    filling-more 0 (s .args .order) (node (s .args .order)) _ _ _ _ nan _ (t .before .loop .inv) (t .loop-test .taken) (omega (arith, s .pre .2)) (sym (zero-add _)) (c .entry-of .ensures)
+    filling-more 0 (s .args .order) (node (s .args .order)) _ _ _ _ nan _ (t .before .loop .inv) (t .loop-test .taken)
+    (omega (arith, s .pre .2)) (sym (zero-add _)) (c .entry-of .ensures)
 
 same-length : tie.Need-same-length Inv-loop μ-loop
 same-length c = c .before .loop .inv .long
@@ -56,7 +57,8 @@ same-length c = c .before .loop .inv .long
 returns : tie.Need-returns Inv-loop μ-loop
 returns c =
     let s = c .before .before .before in
-    filling-done 0 (s .args .order) (node (s .args .order)) _ _ _ (c .before .loop .inv) (c .loop-test .left) ∙ fill-all (s .args .order) (node (s .args .order)) (s .args .nodes .now) (s .pre .2)
+    filling-done 0 (s .args .order) (node (s .args .order)) _ _ _ (c .before .loop .inv) (c .loop-test .left) ∙ fill-all
+    (s .args .order) (node (s .args .order)) (s .args .nodes .now) (s .pre .2)
 
 pub fill-nodes-spec : {M : Type 1} → statement M
 fill-nodes-spec =

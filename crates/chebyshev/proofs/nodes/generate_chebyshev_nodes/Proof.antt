@@ -13,13 +13,18 @@ returns : tie.Need-returns
 returns c = let a = c .before .before .before .args in nodes-refused (a .order) (a .nodes .now) _ (c .before .nodes-number .ensures) (c .if1 .taken)
 
 fill-nodes-requires : tie.Need-fill-nodes-requires
-fill-nodes-requires c κs = let a = c .before .before .before .before .args in nodes-accepted (a .order) (length (a .nodes .now)) (sym (c .before .before .nodes-number .ensures) ∙ c .before .if1 .left)
+fill-nodes-requires c κs =
+    let a = c .before .before .before .before .args in
+    nodes-accepted (a .order) (length (a .nodes .now)) (sym (c .before .before .nodes-number .ensures) ∙ c .before .if1 .left)
 
 same-length : tie.Need-same-length
 same-length c = search needs
 
 returns-2 : tie.Need-returns-2
-returns-2 c = let a = c .before .before .before .before .before .before .before .args in nodes-done (a .order) (a .nodes .now) _ (c .before .before .before .before .before .nodes-number .ensures) _ (c .before .before .before .before .if1 .left) (c .before .before .fill-nodes .ensures)
+returns-2 c =
+    let a = c .before .before .before .before .before .before .before .args in
+    nodes-done (a .order) (a .nodes .now) _ (c .before .before .before .before .before .nodes-number .ensures) _
+    (c .before .before .before .before .if1 .left) (c .before .before .fill-nodes .ensures)
 
 pub generate-chebyshev-nodes-spec : {M : Type 1} → statement M
 generate-chebyshev-nodes-spec =

@@ -15,7 +15,10 @@ fill-with-requires-2 : tie.Need-fill-with-requires-2
 fill-with-requires-2 c κs = c .before .before .before .before .before .before .pre .3
 
 next-derivatives-requires : tie.Need-next-derivatives-requires
-next-derivatives-requires c κs = let s = c .before .before .before .before .before .before in let a = s .args in (s .pre .0, two-before (a .j) (a .rows) (a .at) (s .pre .1) (c .before .before .if1 .left) (c .before .if2 .left), s .pre .2, s .pre .3)
+next-derivatives-requires c κs =
+    let s = c .before .before .before .before .before .before in
+    let a = s .args in
+    (s .pre .0, two-before (a .j) (a .rows) (a .at) (s .pre .1) (c .before .before .if1 .left) (c .before .if2 .left), s .pre .2, s .pre .3)
 
 same-length : tie.Need-same-length
 same-length c = search needs

@@ -24,7 +24,8 @@ polynomials-number-requires c κs = search needs
 returns : tie.Need-returns
 returns c =
     let a = c .before .before .before .before .before .args in
-    polynomials-refused (a .order) (a .rows) (a .with-derivatives) (a .points .now) (a .tn .now) (a .dtn .now) _ (c .before .polynomials-number .ensures) (c .if1 .taken)
+    polynomials-refused (a .order) (a .rows) (a .with-derivatives) (a .points .now) (a .tn .now) (a .dtn .now) _
+    (c .before .polynomials-number .ensures) (c .if1 .taken)
 
 fill-polynomials-requires : tie.Need-fill-polynomials-requires
 fill-polynomials-requires c κs = (ok (c .before) .points, ok (c .before) .values)
@@ -45,7 +46,8 @@ returns-2 : tie.Need-returns-2
 returns-2 c =
     let a = c .before .before .before .before .before .before .before .before .before .before .before .before .before .before .before .args in
     let e = c .before .before .before .before .before .before .before .before .before .before in
-    polynomials-done (a .order) (a .rows) (a .with-derivatives) (a .points .now) (a .tn .now) (a .dtn .now) _ (e .before .polynomials-number .ensures) _ _ (e .if1 .left)
+    polynomials-done (a .order) (a .rows) (a .with-derivatives) (a .points .now) (a .tn .now) (a .dtn .now) _
+    (e .before .polynomials-number .ensures) _ _ (e .if1 .left)
     (c .before .before .before .before .before .before .before .before .fill-polynomials .ensures)
     (c .before .before .fill-derivatives .ensures ∙ ap (λ (t : Bool). cond t (atPoints T′ (a .order) (a .rows) (a .points .now)) []) (sym (c .before .before .before .before .before .if2 .taken)))
 
@@ -56,7 +58,8 @@ returns-3 : tie.Need-returns-3
 returns-3 c =
     let a = c .before .before .before .before .before .before .before .before .before .before .args in
     let e = c .before .before .before .before .before in
-    polynomials-done (a .order) (a .rows) (a .with-derivatives) (a .points .now) (a .tn .now) (a .dtn .now) _ (e .before .polynomials-number .ensures) _ _ (e .if1 .left)
+    polynomials-done (a .order) (a .rows) (a .with-derivatives) (a .points .now) (a .tn .now) (a .dtn .now) _
+    (e .before .polynomials-number .ensures) _ _ (e .if1 .left)
     (c .before .before .before .fill-polynomials .ensures)
     (none (a .dtn .now) (ok e .slopes ∙ ap (λ (t : Bool). derived t (a .order * a .rows)) (c .if2 .left))
     ∙ ap (λ (t : Bool). cond t (atPoints T′ (a .order) (a .rows) (a .points .now)) []) (sym (c .if2 .left)))

@@ -59,7 +59,8 @@ loop-again c =
       omega arith,
       omega (arith, next-column (l .j) (s .args .rows), l .inv .1),
       call .kept .1 .1 .1 .1 .1 .0 ∙ l .inv .2,
-      call .ensures ∙ slopes-filled (s .args .rows) (s .args .points .now) (s .args .dtn .now) (l .dtn) (l .j) (l .at) (l .inv .1) (rw (s .pre .2) fits) (s .args .order) (s .args .tn .now) (s .pre .1) (i .loop-test .taken) (l .inv .3),
+      call .ensures ∙ slopes-filled (s .args .rows) (s .args .points .now) (s .args .dtn .now) (l .dtn) (l .j) (l .at) (l .inv .1)
+          (rw (s .pre .2) fits) (s .args .order) (s .args .tn .now) (s .pre .1) (i .loop-test .taken) (l .inv .3),
     )
 
 same-length : tie.Need-same-length Inv-loop μ-loop

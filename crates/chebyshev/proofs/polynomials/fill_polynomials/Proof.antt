@@ -55,7 +55,8 @@ loop-again c =
       omega arith,
       omega (arith, next-column (l .j) (s .args .rows), l .inv .1),
       call .kept .1 .1 .1 .1 .0 ∙ l .inv .2,
-      call .ensures ∙ column-filled (s .args .rows) (s .args .points .now) (s .args .tn .now) (l .tn) (l .j) (l .at) (l .inv .1) (rw (s .pre .1) fits) (l .inv .3),
+      call .ensures ∙ column-filled (s .args .rows) (s .args .points .now) (s .args .tn .now) (l .tn) (l .j) (l .at) (l .inv .1)
+          (rw (s .pre .1) fits) (l .inv .3),
     )
 
 same-length : tie.Need-same-length Inv-loop μ-loop

@@ -23,7 +23,10 @@ sub-last : tie.Need-sub-last Inv-loop μ-loop
 sub-last c = search needs
 
 loop-holds : tie.Need-loop-holds Inv-loop μ-loop
-loop-holds c = let a = c .args in filling-none (a .at) (a .rows) (λ j. nextT′ (getD (a .points .now) j nan) (getD (a .tn .now) (a .at - a .rows + j) nan) (getD (a .dtn .now) (a .at - a .rows + j) nan) (getD (a .dtn .now) (a .at - a .rows - a .rows + j) nan)) _
+loop-holds c =
+    let a = c .args in
+    filling-none (a .at) (a .rows)
+    (λ j. nextT′ (getD (a .points .now) j nan) (getD (a .tn .now) (a .at - a .rows + j) nan) (getD (a .dtn .now) (a .at - a .rows + j) nan) (getD (a .dtn .now) (a .at - a .rows - a .rows + j) nan)) _
 
 add-dtn : tie.Need-add-dtn Inv-loop μ-loop
 add-dtn c = search needs
@@ -77,18 +80,28 @@ loop-again : tie.Need-loop-again Inv-loop μ-loop
 loop-again c =
     let t = c .before .before .before .before in
     let a = t .before .before .args in
-    filling-more (a .at) (a .rows) (λ j. nextT′ (getD (a .points .now) j nan) (getD (a .tn .now) (a .at - a .rows + j) nan) (getD (a .dtn .now) (a .at - a .rows + j) nan) (getD (a .dtn .now) (a .at - a .rows - a .rows + j) nan)) _ _ _ _ nan _ (t .before .loop .inv) (t .loop-test .taken) (t .before .before .pre .3) refl (let l = t .before .loop in
+    filling-more (a .at) (a .rows)
+    (λ j. nextT′ (getD (a .points .now) j nan) (getD (a .tn .now) (a .at - a .rows + j) nan) (getD (a .dtn .now) (a .at - a .rows + j) nan) (getD (a .dtn .now) (a .at - a .rows - a .rows + j) nan)) _ _ _ _ nan _
+    (t .before .loop .inv) (t .loop-test .taken) (t .before .before .pre .3) refl (let l = t .before .loop in
     let one : getD (l .dtn) (a .at - a .rows + l .i) nan ≡ getD (a .dtn .now) (a .at - a .rows + l .i) nan =
-    filling-before (a .at) (a .rows) (λ j. nextT′ (getD (a .points .now) j nan) (getD (a .tn .now) (a .at - a .rows + j) nan) (getD (a .dtn .now) (a .at - a .rows + j) nan) (getD (a .dtn .now) (a .at - a .rows - a .rows + j) nan)) _ _ _ _ nan (l .inv) (omega (arith, t .before .before .pre)) (omega (arith, t .before .before .pre)) in
+    filling-before (a .at) (a .rows)
+    (λ j. nextT′ (getD (a .points .now) j nan) (getD (a .tn .now) (a .at - a .rows + j) nan) (getD (a .dtn .now) (a .at - a .rows + j) nan) (getD (a .dtn .now) (a .at - a .rows - a .rows + j) nan)) _ _ _ _ nan
+    (l .inv) (omega (arith, t .before .before .pre)) (omega (arith, t .before .before .pre)) in
     let two : getD (l .dtn) (a .at - a .rows - a .rows + l .i) nan ≡ getD (a .dtn .now) (a .at - a .rows - a .rows + l .i) nan =
-    filling-before (a .at) (a .rows) (λ j. nextT′ (getD (a .points .now) j nan) (getD (a .tn .now) (a .at - a .rows + j) nan) (getD (a .dtn .now) (a .at - a .rows + j) nan) (getD (a .dtn .now) (a .at - a .rows - a .rows + j) nan)) _ _ _ _ nan (l .inv) (omega (arith, t .before .before .pre)) (omega (arith, t .before .before .pre)) in
+    filling-before (a .at) (a .rows)
+    (λ j. nextT′ (getD (a .points .now) j nan) (getD (a .tn .now) (a .at - a .rows + j) nan) (getD (a .dtn .now) (a .at - a .rows + j) nan) (getD (a .dtn .now) (a .at - a .rows - a .rows + j) nan)) _ _ _ _ nan
+    (l .inv) (omega (arith, t .before .before .pre)) (omega (arith, t .before .before .pre)) in
     rw (one, two))
 
 same-length : tie.Need-same-length Inv-loop μ-loop
 same-length c = c .before .loop .inv .long
 
 returns : tie.Need-returns Inv-loop μ-loop
-returns c = let a = c .before .before .args in filling-done (a .at) (a .rows) (λ j. nextT′ (getD (a .points .now) j nan) (getD (a .tn .now) (a .at - a .rows + j) nan) (getD (a .dtn .now) (a .at - a .rows + j) nan) (getD (a .dtn .now) (a .at - a .rows - a .rows + j) nan)) _ _ _ (c .before .loop .inv) (c .loop-test .left)
+returns c =
+    let a = c .before .before .args in
+    filling-done (a .at) (a .rows)
+    (λ j. nextT′ (getD (a .points .now) j nan) (getD (a .tn .now) (a .at - a .rows + j) nan) (getD (a .dtn .now) (a .at - a .rows + j) nan) (getD (a .dtn .now) (a .at - a .rows - a .rows + j) nan)) _ _ _
+    (c .before .loop .inv) (c .loop-test .left)
 
 pub next-derivatives-spec : {M : Type 1} → statement M
 next-derivatives-spec =

@@ -15,7 +15,10 @@ copy-column-requires : tie.Need-copy-column-requires
 copy-column-requires c κs = let h = c .before .before .before .before .before .pre in (h .0, h .2)
 
 next-polynomials-requires : tie.Need-next-polynomials-requires
-next-polynomials-requires c κs = let s = c .before .before .before .before .before in let a = s .args in (s .pre .0, two-before (a .j) (a .rows) (a .at) (s .pre .1) (c .before .before .if1 .left) (c .before .if2 .left), s .pre .2)
+next-polynomials-requires c κs =
+    let s = c .before .before .before .before .before in
+    let a = s .args in
+    (s .pre .0, two-before (a .j) (a .rows) (a .at) (s .pre .1) (c .before .before .if1 .left) (c .before .if2 .left), s .pre .2)
 
 same-length : tie.Need-same-length
 same-length c = search needs

@@ -12,7 +12,10 @@ order-number-requires : tie.Need-order-number-requires
 order-number-requires c κs = search needs
 
 returns : tie.Need-returns
-returns c = let a = c .before .before .args in let e = c .before .order-number .ensures in e ∙ polynomials-order (a .order) (a .rows) (a .with-derivatives) (a .points) (a .tn) (a .dtn) (rw e at (c .if1 .taken))
+returns c =
+    let a = c .before .before .args in
+    let e = c .before .order-number .ensures in
+    e ∙ polynomials-order (a .order) (a .rows) (a .with-derivatives) (a .points) (a .tn) (a .dtn) (rw e at (c .if1 .taken))
 
 returns-2 : tie.Need-returns-2
 returns-2 c =
@@ -36,7 +39,8 @@ returns-4 : tie.Need-returns-4
 returns-4 c =
     let a = c .before .before .before .before .before .args in
     let ok = sym (c .before .before .before .before .order-number .ensures) ∙ c .before .before .before .if1 .left in
-    polynomials-values (a .order) (a .rows) (a .with-derivatives) (a .points) (a .tn) (a .dtn) ok (c .before .before .if2 .left) (c .before .if3 .left) (c .if4 .taken)
+    polynomials-values (a .order) (a .rows) (a .with-derivatives) (a .points) (a .tn) (a .dtn) ok (c .before .before .if2 .left)
+    (c .before .if3 .left) (c .if4 .taken)
 
 derived-of-requires : tie.Need-derived-of-requires
 derived-of-requires c κs = search needs
@@ -45,13 +49,17 @@ returns-5 : tie.Need-returns-5
 returns-5 c =
     let a = c .before .before .before .before .before .before .before .args in
     let ok = sym (c .before .before .before .before .before .before .order-number .ensures) ∙ c .before .before .before .before .before .if1 .left in
-    polynomials-slopes (a .order) (a .rows) (a .with-derivatives) (a .points) (a .tn) (a .dtn) ok (c .before .before .before .before .if2 .left) (c .before .before .before .if3 .left) (c .before .before .if4 .left) (rw (c .before .derived-of .ensures) at (c .if5 .taken))
+    polynomials-slopes (a .order) (a .rows) (a .with-derivatives) (a .points) (a .tn) (a .dtn) ok
+    (c .before .before .before .before .if2 .left) (c .before .before .before .if3 .left) (c .before .before .if4 .left)
+    (rw (c .before .derived-of .ensures) at (c .if5 .taken))
 
 returns-6 : tie.Need-returns-6
 returns-6 c =
     let a = c .before .before .before .before .before .before .before .args in
     let ok = sym (c .before .before .before .before .before .before .order-number .ensures) ∙ c .before .before .before .before .before .if1 .left in
-    polynomials-none (a .order) (a .rows) (a .with-derivatives) (a .points) (a .tn) (a .dtn) ok (c .before .before .before .before .if2 .left) (c .before .before .before .if3 .left) (c .before .before .if4 .left) (rw (c .before .derived-of .ensures) at (c .if5 .left))
+    polynomials-none (a .order) (a .rows) (a .with-derivatives) (a .points) (a .tn) (a .dtn) ok
+    (c .before .before .before .before .if2 .left) (c .before .before .before .if3 .left) (c .before .before .if4 .left)
+    (rw (c .before .derived-of .ensures) at (c .if5 .left))
 
 pub polynomials-number-spec : {M : Type 1} → statement M
 polynomials-number-spec =

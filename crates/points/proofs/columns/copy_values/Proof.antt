@@ -43,13 +43,16 @@ loop-again c =
     let i = c .before in
     let s = i .before .before in
     let a = s .args in
-    filling-more (a .at) (a .order) (λ j. getD (a .values .now) j nan) _ _ _ _ nan _ (i .before .loop .inv) (i .loop-test .taken) (s .pre .1) refl refl
+    filling-more (a .at) (a .order) (λ j. getD (a .values .now) j nan) _ _ _ _ nan _ (i .before .loop .inv) (i .loop-test .taken)
+    (s .pre .1) refl refl
 
 same-length : tie.Need-same-length Inv-loop μ-loop
 same-length c = c .before .loop .inv .long
 
 returns : tie.Need-returns Inv-loop μ-loop
-returns c = let a = c .before .before .args in filling-done (a .at) (a .order) (λ j. getD (a .values .now) j nan) _ _ _ (c .before .loop .inv) (c .loop-test .left)
+returns c =
+    let a = c .before .before .args in
+    filling-done (a .at) (a .order) (λ j. getD (a .values .now) j nan) _ _ _ (c .before .loop .inv) (c .loop-test .left)
 
 pub copy-values-spec : {M : Type 1} → statement M
 copy-values-spec =

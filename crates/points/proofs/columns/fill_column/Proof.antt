@@ -32,7 +32,8 @@ room c =
     let l = c .before .loop in
     let s = c .before .before .before .before .before in
     let a = s .args in
-    omega (arith, stepping-fits (a .at) _ _ (indexed (a .dimension) (a .order) (a .axis) (a .values .now)) _ _ _ _ (l .inv) (c .loop-test .taken), whole (c .before), l .inv .long, s .pre .2)
+    omega
+    (arith, stepping-fits (a .at) _ _ (indexed (a .dimension) (a .order) (a .axis) (a .values .now)) _ _ _ _ (l .inv) (c .loop-test .taken), whole (c .before), l .inv .long, s .pre .2)
 
 power-requires : tie.Need-power-requires Inv-loop μ-loop
 power-requires c κs = let s = c .before in (s .pre .0 .order-most, omega (arith, s .pre .0 .dimension-most, s .pre .1))
@@ -47,7 +48,11 @@ power-requires-2 : tie.Need-power-requires-2 Inv-loop μ-loop
 power-requires-2 c κs = let s = c .before .before in (s .pre .0 .order-most, omega (arith, s .pre .0 .dimension-most, s .pre .1))
 
 mul-cycle : tie.Need-mul-cycle Inv-loop μ-loop
-mul-cycle c = let s = c .before .before .before in let a = s .args in omega (arith, cycle-most (a .order) (a .dimension - 1 - a .axis) _ (s .pre .0 .order-most) (omega (arith, s .pre .0 .dimension-most)) (c .power2 .ensures))
+mul-cycle c =
+    let s = c .before .before .before in
+    let a = s .args in
+    omega
+    (arith, cycle-most (a .order) (a .dimension - 1 - a .axis) _ (s .pre .0 .order-most) (omega (arith, s .pre .0 .dimension-most)) (c .power2 .ensures))
 
 loop-holds : tie.Need-loop-holds Inv-loop μ-loop
 loop-holds c = let a = c .before .before .before .args in stepping-none (a .at) _ _ (indexed (a .dimension) (a .order) (a .axis) (a .values .now)) _
@@ -56,7 +61,9 @@ fill-cycle-requires : tie.Need-fill-cycle-requires Inv-loop μ-loop
 fill-cycle-requires c κs = let i = c .before in (i .before .before .before .before .before .pre .0 .order-most, room i)
 
 add-to : tie.Need-add-to Inv-loop μ-loop
-add-to c = let i = c .before .before .before .before in omega (arith, room i, i .before .loop .inv .long, i .before .before .before .before .before .good)
+add-to c =
+    let i = c .before .before .before .before in
+    omega (arith, room i, i .before .loop .inv .long, i .before .before .before .before .before .good)
 
 add-k : tie.Need-add-k Inv-loop μ-loop
 add-k c = search needs
@@ -70,7 +77,8 @@ loop-again c =
     let l = i .before .loop in
     let s = i .before .before .before .before .before in
     let a = s .args in
-    stepping-more (a .at) _ _ (indexed (a .dimension) (a .order) (a .axis) (a .values .now)) _ _ _ _ _ _ (l .inv) (i .loop-test .taken) (rw (whole (i .before)) (s .pre .2))
+    stepping-more (a .at) _ _ (indexed (a .dimension) (a .order) (a .axis) (a .values .now)) _ _ _ _ _ _ (l .inv)
+    (i .loop-test .taken) (rw (whole (i .before)) (s .pre .2))
     (λ j h. cycle-value (a .dimension) (a .order) (a .axis) (a .values .now) _ (l .k) j (i .before .before .power2 .ensures) h) (c .before .before .fill-cycle .ensures)
 
 same-length : tie.Need-same-length Inv-loop μ-loop

@@ -23,7 +23,8 @@ same-length c = search needs
 returns : tie.Need-returns
 returns c =
     let a = c .before .before .before .before .before .before .args in
-    c .before .before .copy-values .ensures ∙ short-cycle (a .order) (a .run) (a .at) (a .values .now) (a .points .now) (c .before .before .before .before .if1 .taken)
+    c .before .before .copy-values .ensures ∙ short-cycle (a .order) (a .run) (a .at) (a .values .now) (a .points .now)
+    (c .before .before .before .before .if1 .taken)
 
 same-length-2 : tie.Need-same-length-2
 same-length-2 c = search needs

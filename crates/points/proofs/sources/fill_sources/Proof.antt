@@ -37,16 +37,22 @@ power-requires : tie.Need-power-requires Inv-loop μ-loop
 power-requires c κs = let s = c .before .before in (s .pre .shape .order-most, s .pre .shape .dimension-most)
 
 loop-holds : tie.Need-loop-holds Inv-loop μ-loop
-loop-holds c = let a = c .before .before .before .args in (refl, stepping-none 0 (a .dimension) _ (cell _ (vectorEntry (a .dimension) (a .order) (a .length) (a .vector) (a .nodes .now))) _)
+loop-holds c =
+    let a = c .before .before .before .args in
+    (refl, stepping-none 0 (a .dimension) _ (cell _ (vectorEntry (a .dimension) (a .order) (a .length) (a .vector) (a .nodes .now))) _)
 
 entry-on-requires : tie.Need-entry-on-requires Inv-loop μ-loop
 entry-on-requires c κs = let s = c .before .before .before .before .before in omega (arith, s .pre .shape .dimension-most)
 
 scale-sources-requires : tie.Need-scale-sources-requires Inv-loop μ-loop
-scale-sources-requires c κs = let s = c .before .before .before .before .before .before .before in (s .pre .shape .order-most, s .pre .given, c .before .before .before .loop .inv .0)
+scale-sources-requires c κs =
+    let s = c .before .before .before .before .before .before .before in
+    (s .pre .shape .order-most, s .pre .given, c .before .before .before .loop .inv .0)
 
 fill-column-requires : tie.Need-fill-column-requires Inv-loop μ-loop
-fill-column-requires c κs = let i = c .before .before .before .before .before in (i .before .before .before .before .before .pre .shape, i .loop-test .taken, room i)
+fill-column-requires c κs =
+    let i = c .before .before .before .before .before in
+    (i .before .before .before .before .before .pre .shape, i .loop-test .taken, room i)
 
 add-at : tie.Need-add-at Inv-loop μ-loop
 add-at c =
@@ -69,8 +75,10 @@ loop-again c =
     let a = s .args in
     let e = i .before .before .power .ensures in
     let scaled = c .before .before .before .before .before .scale-sources .ensures in (
-      ap size scaled ∙ stretch-length 0 (λ j. onSource (a .length) _ (getD (a .nodes .now) j nan)) _ (a .order) (omega (arith, l .inv .0, s .pre .shape .order-most)) ∙ l .inv .0,
-      column-more (a .dimension) (a .order) _ (vectorEntry (a .dimension) (a .order) (a .length) (a .vector) (a .nodes .now)) _ _ _ (l .axis) (l .at) _ _ _ e (s .pre .whole) (s .pre .shape .order-least) (l .inv .1) (i .loop-test .taken) scaled
+      ap size scaled ∙ stretch-length 0 (λ j. onSource (a .length) _ (getD (a .nodes .now) j nan)) _ (a .order)
+          (omega (arith, l .inv .0, s .pre .shape .order-most)) ∙ l .inv .0,
+      column-more (a .dimension) (a .order) _ (vectorEntry (a .dimension) (a .order) (a .length) (a .vector) (a .nodes .now)) _ _ _
+          (l .axis) (l .at) _ _ _ e (s .pre .whole) (s .pre .shape .order-least) (l .inv .1) (i .loop-test .taken) scaled
           (λ n. ap (λ (r : Float). onSource (a .length) r (nodeOn (a .dimension) (a .order) (a .nodes .now) n (l .axis))) (c .before .before .before .before .before .before .before .entry-on .ensures))
           (c .before .before .fill-column .ensures),
     )
@@ -83,8 +91,10 @@ returns c =
     let l = c .before .loop in
     let s = c .before .before .before .before .before in
     let a = s .args in
-    stepping-done 0 (a .dimension) _ (cell _ (vectorEntry (a .dimension) (a .order) (a .length) (a .vector) (a .nodes .now))) _ _ _ _ (l .inv .1) (c .loop-test .left)
-    ∙ points-done (a .dimension) (a .order) _ (vectorEntry (a .dimension) (a .order) (a .length) (a .vector) (a .nodes .now)) _ (c .before .before .power .ensures) (s .pre .whole)
+    stepping-done 0 (a .dimension) _ (cell _ (vectorEntry (a .dimension) (a .order) (a .length) (a .vector) (a .nodes .now))) _ _ _ _
+    (l .inv .1) (c .loop-test .left)
+    ∙ points-done (a .dimension) (a .order) _ (vectorEntry (a .dimension) (a .order) (a .length) (a .vector) (a .nodes .now)) _
+    (c .before .before .power .ensures) (s .pre .whole)
 
 pub fill-sources-spec : {M : Type 1} → statement M
 fill-sources-spec =

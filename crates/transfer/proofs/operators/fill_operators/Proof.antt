@@ -50,10 +50,14 @@ scale-column-requires : tie.Need-scale-column-requires Inv-loop μ-loop
 scale-column-requires c κs = omega (arith, fits (c .before .before .before .before .before .before), c .before .before .before .sum-column .kept)
 
 add-at : tie.Need-add-at Inv-loop μ-loop
-add-at c = let i = c .before .before .before .before .before .before .before .before .before in omega (arith, fits i, i .before .loop .inv .2, i .before .before .before .before .before .before .before .good)
+add-at c =
+    let i = c .before .before .before .before .before .before .before .before .before in
+    omega (arith, fits i, i .before .loop .inv .2, i .before .before .before .before .before .before .before .good)
 
 add-c : tie.Need-add-c Inv-loop μ-loop
-add-c c = omega (arith, c .before .before .before .before .before .before .before .before .before .before .before .before .before .before .before .before .pre .0)
+add-c c =
+    omega
+    (arith, c .before .before .before .before .before .before .before .before .before .before .before .before .before .before .before .before .pre .0)
 
 loop-less : tie.Need-loop-less Inv-loop μ-loop
 loop-less c = search needs
@@ -69,9 +73,12 @@ loop-again c =
       omega arith,
       omega (arith, next-column (l .c) (a .order), l .inv .1),
       scaled .kept .1 .1 .1 .1 .0 ∙ summed .kept .1 .1 .1 .1 .0 ∙ l .inv .2,
-      scaled .ensures ∙ column-done (a .order) (a .nodes .now) (a .polynomials .now) (a .operators .now) (l .operators) _ (l .c) (l .at) _ _ _ (l .inv .1)
+      scaled .ensures ∙ column-done (a .order) (a .nodes .now) (a .polynomials .now) (a .operators .now) (l .operators) _ (l .c)
+          (l .at) _ _ _ (l .inv .1)
           (rw (s .pre .3) (column-fits (l .c) (a .order + a .order) (a .order) (l .at) (i .loop-test .taken) (l .inv .1)))
-          (c .before .before .before .before .before .before .before .before .child-node .ensures) (i .before .before .before .share-of .ensures) (i .before .before .share-of2 .ensures) (l .inv .3) (summed .ensures) (l .inv .2),
+          (c .before .before .before .before .before .before .before .before .child-node .ensures)
+          (i .before .before .before .share-of .ensures) (i .before .before .share-of2 .ensures) (l .inv .3) (summed .ensures)
+          (l .inv .2),
     )
 
 same-length : tie.Need-same-length Inv-loop μ-loop

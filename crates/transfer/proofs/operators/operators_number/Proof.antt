@@ -13,7 +13,10 @@ order-number-requires : tie.Need-order-number-requires
 order-number-requires c κs = search needs
 
 returns : tie.Need-returns
-returns c = let a = c .before .before .args in let e = c .before .order-number .ensures in e ∙ operators-order (a .order) (a .nodes) (a .polynomials) (a .operators) (rw e at (c .if1 .taken))
+returns c =
+    let a = c .before .before .args in
+    let e = c .before .order-number .ensures in
+    e ∙ operators-order (a .order) (a .nodes) (a .polynomials) (a .operators) (rw e at (c .if1 .taken))
 
 returns-2 : tie.Need-returns-2
 returns-2 c =
@@ -22,7 +25,10 @@ returns-2 c =
     operators-nodes (a .order) (a .nodes) (a .polynomials) (a .operators) ok (c .if2 .taken)
 
 mul-if3 : tie.Need-mul-if3
-mul-if3 c = let a = c .before .before .before .args in let ok = order-taken (a .order) (sym (c .before .before .order-number .ensures) ∙ c .before .if1 .left) in omega (arith, mul-le-mul {n₁ = a .order} {m₁ = a .order} {n₂ = 16} {m₂ = 16} (ok .1) (ok .1))
+mul-if3 c =
+    let a = c .before .before .before .args in
+    let ok = order-taken (a .order) (sym (c .before .before .order-number .ensures) ∙ c .before .if1 .left) in
+    omega (arith, mul-le-mul {n₁ = a .order} {m₁ = a .order} {n₂ = 16} {m₂ = 16} (ok .1) (ok .1))
 
 returns-3 : tie.Need-returns-3
 returns-3 c =
@@ -31,10 +37,16 @@ returns-3 c =
     operators-polynomials (a .order) (a .nodes) (a .polynomials) (a .operators) ok (c .before .if2 .left) (c .if3 .taken)
 
 add-if4 : tie.Need-add-if4
-add-if4 c = let a = c .before .before .before .before .args in let ok = order-taken (a .order) (sym (c .before .before .before .order-number .ensures) ∙ c .before .before .if1 .left) in omega arith
+add-if4 c =
+    let a = c .before .before .before .before .args in
+    let ok = order-taken (a .order) (sym (c .before .before .before .order-number .ensures) ∙ c .before .before .if1 .left) in
+    omega arith
 
 mul-if4 : tie.Need-mul-if4
-mul-if4 c = let a = c .before .before .before .before .args in let ok = order-taken (a .order) (sym (c .before .before .before .order-number .ensures) ∙ c .before .before .if1 .left) in omega (arith, mul-le-mul {n₁ = a .order + a .order} {m₁ = a .order} {n₂ = 32} {m₂ = 16} (omega arith) (ok .1))
+mul-if4 c =
+    let a = c .before .before .before .before .args in
+    let ok = order-taken (a .order) (sym (c .before .before .before .order-number .ensures) ∙ c .before .before .if1 .left) in
+    omega (arith, mul-le-mul {n₁ = a .order + a .order} {m₁ = a .order} {n₂ = 32} {m₂ = 16} (omega arith) (ok .1))
 
 returns-4 : tie.Need-returns-4
 returns-4 c =

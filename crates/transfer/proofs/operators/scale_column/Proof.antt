@@ -16,7 +16,9 @@ abbrev μ-loop : tie.MeasureT-loop
 μ-loop rows factor offset at operators₀ i₀ operators i = rows - i
 
 loop-holds : tie.Need-loop-holds Inv-loop μ-loop
-loop-holds c = let a = c .args in filling-none (a .at) (a .rows) (λ j. minus (times (getD (a .operators .now) (a .at + j) nan) (a .factor)) (a .offset)) _
+loop-holds c =
+    let a = c .args in
+    filling-none (a .at) (a .rows) (λ j. minus (times (getD (a .operators .now) (a .at + j) nan) (a .factor)) (a .offset)) _
 
 add-operators : tie.Need-add-operators Inv-loop μ-loop
 add-operators c = search needs
@@ -48,14 +50,19 @@ loop-again c =
     let s = t .before .before in
     let a = s .args in
     let l = t .before .loop in
-    let here : getD (l .operators) (a .at + l .i) nan ≡ getD (a .operators .now) (a .at + l .i) nan = filling-here (a .at) (a .rows) (λ j. minus (times (getD (a .operators .now) (a .at + j) nan) (a .factor)) (a .offset)) _ _ _ nan (l .inv) (s .pre) in
-    filling-more (a .at) (a .rows) (λ j. minus (times (getD (a .operators .now) (a .at + j) nan) (a .factor)) (a .offset)) _ _ _ _ nan _ (l .inv) (t .loop-test .taken) (s .pre) refl (rw here)
+    let here : getD (l .operators) (a .at + l .i) nan ≡ getD (a .operators .now) (a .at + l .i) nan = filling-here (a .at)
+    (a .rows) (λ j. minus (times (getD (a .operators .now) (a .at + j) nan) (a .factor)) (a .offset)) _ _ _ nan (l .inv) (s .pre) in
+    filling-more (a .at) (a .rows) (λ j. minus (times (getD (a .operators .now) (a .at + j) nan) (a .factor)) (a .offset)) _ _ _ _ nan _
+    (l .inv) (t .loop-test .taken) (s .pre) refl (rw here)
 
 same-length : tie.Need-same-length Inv-loop μ-loop
 same-length c = c .before .loop .inv .long
 
 returns : tie.Need-returns Inv-loop μ-loop
-returns c = let a = c .before .before .args in filling-done (a .at) (a .rows) (λ j. minus (times (getD (a .operators .now) (a .at + j) nan) (a .factor)) (a .offset)) _ _ _ (c .before .loop .inv) (c .loop-test .left)
+returns c =
+    let a = c .before .before .args in
+    filling-done (a .at) (a .rows) (λ j. minus (times (getD (a .operators .now) (a .at + j) nan) (a .factor)) (a .offset)) _ _ _
+    (c .before .loop .inv) (c .loop-test .left)
 
 pub scale-column-spec : {M : Type 1} → statement M
 scale-column-spec =

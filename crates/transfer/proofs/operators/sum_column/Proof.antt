@@ -66,7 +66,8 @@ loop-again c =
       l .inv .3,
       T-next (l .k) (a .x) (l .t) (l .next) (l .inv .2) (l .inv .3),
       call .kept .1 .1 .1 .1 .1 .0 ∙ l .inv .4,
-      call .ensures ∙ sums-next (a .order) (a .polynomials .now) (a .x) (a .at) _ fits (l .operators) (l .k) (l .from) (l .t) (l .inv .5) (l .inv .1) (l .inv .2),
+      call .ensures ∙ sums-next (a .order) (a .polynomials .now) (a .x) (a .at) _ fits (l .operators) (l .k) (l .from) (l .t)
+          (l .inv .5) (l .inv .1) (l .inv .2),
     )
 
 same-length : tie.Need-same-length Inv-loop μ-loop
@@ -78,7 +79,8 @@ returns c =
     let s = c .before .before .before .before .before .before .before .before in
     let a = s .args in
     let all : l .k ≡ a .order = omega arith in
-    sums-all (a .order) (a .polynomials .now) (a .x) (a .at) (a .operators .now) (s .pre .1) _ (l .operators) (c .before .before .before .before .fill-with .ensures) (rw all at (l .inv .5))
+    sums-all (a .order) (a .polynomials .now) (a .x) (a .at) (a .operators .now) (s .pre .1) _ (l .operators)
+    (c .before .before .before .before .fill-with .ensures) (rw all at (l .inv .5))
 
 pub sum-column-spec : {M : Type 1} → statement M
 sum-column-spec =

@@ -46,7 +46,9 @@ add-start c =
     omega (arith, l .inv .1, s .pre .3, mul-le-mul {n₁ = s .args .dr} {m₁ = l .r} {n₂ = 16} {m₂ = 16} (s .pre .3) (omega (arith, s .pre .4)))
 
 add-at : tie.Need-add-at Inv-loop μ-loop
-add-at c = let i = c .before .before .before .before in omega (arith, fits i, i .before .loop .inv .3, i .before .before .before .before .before .good)
+add-at c =
+    let i = c .before .before .before .before in
+    omega (arith, fits i, i .before .loop .inv .3, i .before .before .before .before .before .good)
 
 add-r : tie.Need-add-r Inv-loop μ-loop
 add-r c = omega (arith, c .before .before .before .before .before .before .before .before .before .pre .4)
@@ -65,7 +67,8 @@ loop-again c =
       omega (arith, l .inv .1, next-start (a .dr) (l .r)),
       omega (arith, l .inv .2, next-column (l .r) (a .width)),
       call .kept .1 .1 .1 .1 .1 .1 .1 .0 ∙ l .inv .3,
-      call .ensures ∙ row-filled (a .order) (a .width) (a .values .now) (a .operator .now) (a .dr) (a .ds) (a .out .now) (l .out) (l .r) (l .at) (l .start) (l .inv .1) (l .inv .2)
+      call .ensures ∙ row-filled (a .order) (a .width) (a .values .now) (a .operator .now) (a .dr) (a .ds) (a .out .now) (l .out)
+          (l .r) (l .at) (l .start) (l .inv .1) (l .inv .2)
           (rw (s .pre .1) (column-fits (l .r) (a .order) (a .width) (l .at) (i .loop-test .taken) (l .inv .2))) (l .inv .4),
     )
 
@@ -78,7 +81,8 @@ returns c =
     let s = c .before .before .before .before .before in
     let a = s .args in
     let all : l .r ≡ a .order = omega arith in
-    l .inv .4 ∙ rows-all (a .order) (a .width) (a .values .now) (a .operator .now) (a .dr) (a .ds) (a .out .now) (l .at) (s .pre .1) (rw all at (l .inv .2))
+    l .inv .4 ∙ rows-all (a .order) (a .width) (a .values .now) (a .operator .now) (a .dr) (a .ds) (a .out .now) (l .at)
+    (s .pre .1) (rw all at (l .inv .2))
 
 pub pass-spec : {M : Type 1} → statement M
 pass-spec =

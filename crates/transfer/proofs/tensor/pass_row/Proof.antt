@@ -19,7 +19,9 @@ abbrev μ-loop : tie.MeasureT-loop
 μ-loop order width values operator start step at out₀ from₀ c₀ out from c = width - c
 
 loop-holds : tie.Need-loop-holds Inv-loop μ-loop
-loop-holds c = let a = c .before .before .before .args in (sym (mul-zero _), filling-none (a .at) (a .width) (λ c. dotOf (a .order) (a .values .now) (a .order * c) 1 (a .operator .now) (a .start) (a .step)) _)
+loop-holds c =
+    let a = c .before .before .before .args in
+    (sym (mul-zero _), filling-none (a .at) (a .width) (λ c. dotOf (a .order) (a .values .now) (a .order * c) 1 (a .operator .now) (a .start) (a .step)) _)
 
 dot-requires : tie.Need-dot-requires Inv-loop μ-loop
 dot-requires c κs =
@@ -37,7 +39,10 @@ slice-write-out : tie.Need-slice-write-out Inv-loop μ-loop
 slice-write-out c = let s = c .before .before .before .before .before .before in omega (arith, c .before .before .loop .inv .1 .long, s .pre .2)
 
 add-from : tie.Need-add-from Inv-loop μ-loop
-add-from c = let s = c .before .before .before .before .before .before in let l = c .before .before .loop in omega (arith, l .inv .0, start-fits (s .args .order) (s .args .width) (l .c) (c .before .loop-test .taken), s .pre .0, s .good)
+add-from c =
+    let s = c .before .before .before .before .before .before in
+    let l = c .before .before .loop in
+    omega (arith, l .inv .0, start-fits (s .args .order) (s .args .width) (l .c) (c .before .loop-test .taken), s .pre .0, s .good)
 
 add-c : tie.Need-add-c Inv-loop μ-loop
 add-c c = search needs
@@ -59,7 +64,11 @@ same-length : tie.Need-same-length Inv-loop μ-loop
 same-length c = c .before .loop .inv .1 .long
 
 returns : tie.Need-returns Inv-loop μ-loop
-returns c = let a = c .before .before .before .before .before .args in filling-done (a .at) (a .width) (λ c. dotOf (a .order) (a .values .now) (a .order * c) 1 (a .operator .now) (a .start) (a .step)) _ _ _ (c .before .loop .inv .1) (c .loop-test .left)
+returns c =
+    let a = c .before .before .before .before .before .args in
+    filling-done (a .at) (a .width)
+    (λ c. dotOf (a .order) (a .values .now) (a .order * c) 1 (a .operator .now) (a .start) (a .step)) _ _ _
+    (c .before .loop .inv .1) (c .loop-test .left)
 
 pub pass-row-spec : {M : Type 1} → statement M
 pass-row-spec =

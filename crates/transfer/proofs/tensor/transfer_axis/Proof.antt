@@ -17,19 +17,34 @@ side-of-requires : tie.Need-side-of-requires
 side-of-requires c κs = search needs
 
 mul-start : tie.Need-mul-start
-mul-start c = let s = c .before .before .before .before in let a = s .args in omega (arith, mul-le-mul {n₁ = a .order} {m₁ = a .order} {n₂ = 16} {m₂ = 16} (s .pre .0) (s .pre .0))
+mul-start c =
+    let s = c .before .before .before .before in
+    let a = s .args in
+    omega (arith, mul-le-mul {n₁ = a .order} {m₁ = a .order} {n₂ = 16} {m₂ = 16} (s .pre .0) (s .pre .0))
 
 mul-start-2 : tie.Need-mul-start-2
-mul-start-2 c = let s = c .before .before .before .before in let a = s .args in omega (arith, start-in (a .order) (c .side-of .result) (a .operators .now) (two c) (s .pre .2), s .good)
+mul-start-2 c =
+    let s = c .before .before .before .before in
+    let a = s .args in
+    omega (arith, start-in (a .order) (c .side-of .result) (a .operators .now) (two c) (s .pre .2), s .good)
 
 mul-block : tie.Need-mul-block
-mul-block c = let s = c .before .before .before .before in let a = s .args in omega (arith, start-in (a .order) (c .side-of .result) (a .operators .now) (two c) (s .pre .2), s .good)
+mul-block c =
+    let s = c .before .before .before .before in
+    let a = s .args in
+    omega (arith, start-in (a .order) (c .side-of .result) (a .operators .now) (two c) (s .pre .2), s .good)
 
 sub-block : tie.Need-sub-block
-sub-block c = let s = c .before .before .before .before in let a = s .args in omega (arith, start-in (a .order) (c .side-of .result) (a .operators .now) (two c) (s .pre .2))
+sub-block c =
+    let s = c .before .before .before .before in
+    let a = s .args in
+    omega (arith, start-in (a .order) (c .side-of .result) (a .operators .now) (two c) (s .pre .2))
 
 part-block-start : tie.Need-part-block-start
-part-block-start c = let s = c .before .before .before .before in let a = s .args in start-in (a .order) (c .side-of .result) (a .operators .now) (two c) (s .pre .2)
+part-block-start c =
+    let s = c .before .before .before .before in
+    let a = s .args in
+    start-in (a .order) (c .side-of .result) (a .operators .now) (two c) (s .pre .2)
 
 part-block-end : tie.Need-part-block-end
 part-block-end c = search needs
@@ -55,7 +70,8 @@ returns : tie.Need-returns
 unfolding along
 returns c =
     let a = c .before .before .before .before .before .before .before .before .before .before .args in
-    c .before .before .pass .ensures ∙ rw (rest, c .before .before .before .before .before .before .side-of .ensures, c .before .before .before .before .if1 .taken)
+    c .before .before .pass .ensures ∙ rw
+    (rest, c .before .before .before .before .before .before .side-of .ensures, c .before .before .before .before .if1 .taken)
 
 same-length-2 : tie.Need-same-length-2
 same-length-2 c = search needs
@@ -64,7 +80,8 @@ returns-2 : tie.Need-returns-2
 unfolding along
 returns-2 c =
     let a = c .before .before .before .before .before .before .before .before .before .before .args in
-    c .before .before .pass2 .ensures ∙ rw (rest, c .before .before .before .before .before .before .side-of .ensures, c .before .before .before .before .if1 .left)
+    c .before .before .pass2 .ensures ∙ rw
+    (rest, c .before .before .before .before .before .before .side-of .ensures, c .before .before .before .before .if1 .left)
 
 pub transfer-axis-spec : {M : Type 1} → statement M
 transfer-axis-spec =

@@ -13,7 +13,10 @@ shape-number-requires : tie.Need-shape-number-requires
 shape-number-requires c κs = search needs
 
 returns : tie.Need-returns
-returns c = let a = c .before .before .args in let e = c .before .shape-number .ensures in e ∙ transfer-shape (a .dimension) (a .order) (a .child) (a .input) (a .operators) (a .first) (a .second) (rw e at (c .if1 .taken))
+returns c =
+    let a = c .before .before .args in
+    let e = c .before .shape-number .ensures in
+    e ∙ transfer-shape (a .dimension) (a .order) (a .child) (a .input) (a .operators) (a .first) (a .second) (rw e at (c .if1 .taken))
 
 power-requires : tie.Need-power-requires
 power-requires c κs =
@@ -25,7 +28,8 @@ returns-2 : tie.Need-returns-2
 returns-2 c =
     let a = c .before .before .before .before .args in
     let ok = sym (c .before .before .before .shape-number .ensures) ∙ c .before .before .if1 .left in
-    transfer-child (a .dimension) (a .order) (a .child) (a .input) (a .operators) (a .first) (a .second) ok (rw (c .before .power .ensures) at (c .if2 .taken))
+    transfer-child (a .dimension) (a .order) (a .child) (a .input) (a .operators) (a .first) (a .second) ok
+    (rw (c .before .power .ensures) at (c .if2 .taken))
 
 power-requires-2 : tie.Need-power-requires-2
 power-requires-2 c κs =
@@ -38,7 +42,9 @@ returns-3 : tie.Need-returns-3
 returns-3 c =
     let a = c .before .before .before .before .before .before .args in
     let ok = sym (c .before .before .before .before .before .shape-number .ensures) ∙ c .before .before .before .before .if1 .left in
-    transfer-input (a .dimension) (a .order) (a .child) (a .input) (a .operators) (a .first) (a .second) ok (rw (c .before .before .before .power .ensures) at (c .before .before .if2 .left)) (rw (c .before .power2 .ensures) at (c .if3 .taken))
+    transfer-input (a .dimension) (a .order) (a .child) (a .input) (a .operators) (a .first) (a .second) ok
+    (rw (c .before .before .before .power .ensures) at (c .before .before .if2 .left))
+    (rw (c .before .power2 .ensures) at (c .if3 .taken))
 
 add-if4 : tie.Need-add-if4
 add-if4 c =
@@ -58,28 +64,38 @@ returns-4 : tie.Need-returns-4
 returns-4 c =
     let a = c .before .before .before .before .before .before .before .args in
     let ok = sym (c .before .before .before .before .before .before .shape-number .ensures) ∙ c .before .before .before .before .before .if1 .left in
-    transfer-operators (a .dimension) (a .order) (a .child) (a .input) (a .operators) (a .first) (a .second) ok (rw (c .before .before .before .before .power .ensures) at (c .before .before .before .if2 .left)) (rw (c .before .before .power2 .ensures) at (c .before .if3 .left)) (c .if4 .taken)
+    transfer-operators (a .dimension) (a .order) (a .child) (a .input) (a .operators) (a .first) (a .second) ok
+    (rw (c .before .before .before .before .power .ensures) at (c .before .before .before .if2 .left))
+    (rw (c .before .before .power2 .ensures) at (c .before .if3 .left)) (c .if4 .taken)
 
 returns-5 : tie.Need-returns-5
 returns-5 c =
     let a = c .before .before .before .before .before .before .before .before .args in
     let ok = sym (c .before .before .before .before .before .before .before .shape-number .ensures) ∙ c .before .before .before .before .before .before .if1 .left in
     let n = c .before .before .before .power2 .ensures in
-    transfer-first (a .dimension) (a .order) (a .child) (a .input) (a .operators) (a .first) (a .second) ok (rw (c .before .before .before .before .before .power .ensures) at (c .before .before .before .before .if2 .left)) (rw n at (c .before .before .if3 .left)) (c .before .if4 .left) (rw n at (c .if5 .taken))
+    transfer-first (a .dimension) (a .order) (a .child) (a .input) (a .operators) (a .first) (a .second) ok
+    (rw (c .before .before .before .before .before .power .ensures) at (c .before .before .before .before .if2 .left))
+    (rw n at (c .before .before .if3 .left)) (c .before .if4 .left) (rw n at (c .if5 .taken))
 
 returns-6 : tie.Need-returns-6
 returns-6 c =
     let a = c .before .before .before .before .before .before .before .before .before .args in
     let ok = sym (c .before .before .before .before .before .before .before .before .shape-number .ensures) ∙ c .before .before .before .before .before .before .before .if1 .left in
     let n = c .before .before .before .before .power2 .ensures in
-    transfer-second (a .dimension) (a .order) (a .child) (a .input) (a .operators) (a .first) (a .second) ok (rw (c .before .before .before .before .before .before .power .ensures) at (c .before .before .before .before .before .if2 .left)) (rw n at (c .before .before .before .if3 .left)) (c .before .before .if4 .left) (rw n at (c .before .if5 .left)) (rw n at (c .if6 .taken))
+    transfer-second (a .dimension) (a .order) (a .child) (a .input) (a .operators) (a .first) (a .second) ok
+    (rw (c .before .before .before .before .before .before .power .ensures) at (c .before .before .before .before .before .if2 .left))
+    (rw n at (c .before .before .before .if3 .left)) (c .before .before .if4 .left) (rw n at (c .before .if5 .left))
+    (rw n at (c .if6 .taken))
 
 returns-7 : tie.Need-returns-7
 returns-7 c =
     let a = c .before .before .before .before .before .before .before .before .before .args in
     let ok = sym (c .before .before .before .before .before .before .before .before .shape-number .ensures) ∙ c .before .before .before .before .before .before .before .if1 .left in
     let n = c .before .before .before .before .power2 .ensures in
-    transfer-none (a .dimension) (a .order) (a .child) (a .input) (a .operators) (a .first) (a .second) ok (rw (c .before .before .before .before .before .before .power .ensures) at (c .before .before .before .before .before .if2 .left)) (rw n at (c .before .before .before .if3 .left)) (c .before .before .if4 .left) (rw n at (c .before .if5 .left)) (rw n at (c .if6 .left))
+    transfer-none (a .dimension) (a .order) (a .child) (a .input) (a .operators) (a .first) (a .second) ok
+    (rw (c .before .before .before .before .before .before .power .ensures) at (c .before .before .before .before .before .if2 .left))
+    (rw n at (c .before .before .before .if3 .left)) (c .before .before .if4 .left) (rw n at (c .before .if5 .left))
+    (rw n at (c .if6 .left))
 
 pub transfer-number-spec : {M : Type 1} → statement M
 transfer-number-spec =

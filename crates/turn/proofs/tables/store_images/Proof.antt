@@ -47,7 +47,8 @@ loop-again : tie.Need-loop-again Inv-loop μ-loop
 loop-again c =
     let l = c .before .before in
     let a = l .before .before .args in
-    storing-more (λ j. (a .node) + j) (stepped (a .image) (a .step)) (a .image) (a .step) (a .order) (a .table .now) (l .loop .table) (l .loop .to) (l .loop .i) _ _ _ (l .loop .inv) (c .before .loop-test .taken)
+    storing-more (λ j. (a .node) + j) (stepped (a .image) (a .step)) (a .image) (a .step) (a .order) (a .table .now)
+    (l .loop .table) (l .loop .to) (l .loop .i) _ _ _ (l .loop .inv) (c .before .loop-test .taken)
     refl (l .loop .inv .next) (c .wrapping-add-usize .ensures)
 
 same-length : tie.Need-same-length Inv-loop μ-loop

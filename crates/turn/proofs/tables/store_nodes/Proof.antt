@@ -47,7 +47,8 @@ loop-again : tie.Need-loop-again Inv-loop μ-loop
 loop-again c =
     let l = c .before .before in
     let a = l .before .before .args in
-    storing-more (stepped (a .image) (a .step)) (λ j. (a .node) + j) (a .image) (a .step) (a .order) (a .table .now) (l .loop .table) (l .loop .to) (l .loop .i) _ _ _ (l .loop .inv) (c .before .loop-test .taken)
+    storing-more (stepped (a .image) (a .step)) (λ j. (a .node) + j) (a .image) (a .step) (a .order) (a .table .now)
+    (l .loop .table) (l .loop .to) (l .loop .i) _ _ _ (l .loop .inv) (c .before .loop-test .taken)
     (l .loop .inv .next) refl (c .wrapping-add-usize .ensures)
 
 same-length : tie.Need-same-length Inv-loop μ-loop

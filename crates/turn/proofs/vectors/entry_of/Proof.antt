@@ -15,7 +15,9 @@ number-of-requires : tie.Need-number-of-requires
 number-of-requires c κs = (omega arith, c .before .pre .0)
 
 case-of-requires : tie.Need-case-of-requires
-case-of-requires c κs = let s = c .before .before in (s .pre .0, rw (c .before .sizes-of .ensures) (sizes-small (s .args .dimension) (s .args .d) (s .pre .0)))
+case-of-requires c κs =
+    let s = c .before .before in
+    (s .pre .0, rw (c .before .sizes-of .ensures) (sizes-small (s .args .dimension) (s .args .d) (s .pre .0)))
 
 reference-of-requires : tie.Need-reference-of-requires
 reference-of-requires c κs =
@@ -36,7 +38,8 @@ returns c =
     let small = sizes-small D d (s .pre .0) in
     let past = sizes-past D d (s .pre .0) (s .pre .1) in
     entry-held D d (s .pre .0) (c .before .before .before .number-of .result) (c .before .before .case-of .result) (c .before .reference-of .result) _
-    (c .before .before .before .number-of .ensures) (rw sizes at (c .before .before .case-of .ensures)) (rw sizes at (c .before .reference-of .ensures))
+    (c .before .before .before .number-of .ensures) (rw sizes at (c .before .before .case-of .ensures))
+    (rw sizes at (c .before .reference-of .ensures))
     (rw (c .largest-of .ensures, sizes) (near-by D (eachOf sizeOf d) small past))
 
 pub entry-of-spec : {M : Type 1} → statement M

@@ -15,11 +15,15 @@ returns-2 c = let x = c .before .before .args in rw (ne-eqb (x .a) 0 (c .before 
 
 returns-3 : tie.Need-returns-3
 unfolding lower
-returns-3 c = let x = c .before .before .before .args in rw (ne-eqb (x .a) 0 (c .before .before .if1 .left), ne-eqb (x .b) 0 (c .before .if2 .left)) (omega arith)
+returns-3 c =
+    let x = c .before .before .before .args in
+    rw (ne-eqb (x .a) 0 (c .before .before .if1 .left), ne-eqb (x .b) 0 (c .before .if2 .left)) (omega arith)
 
 returns-4 : tie.Need-returns-4
 unfolding lower
-returns-4 c = let x = c .before .before .before .args in rw (ne-eqb (x .a) 0 (c .before .before .if1 .left), ne-eqb (x .b) 0 (c .before .if2 .left)) (omega arith)
+returns-4 c =
+    let x = c .before .before .before .args in
+    rw (ne-eqb (x .a) 0 (c .before .before .if1 .left), ne-eqb (x .b) 0 (c .before .if2 .left)) (omega arith)
 
 pub lower-of-spec : {M : Type 1} → statement M
 lower-of-spec = tie.close (tie.spec returns returns-2 returns-3 returns-4)

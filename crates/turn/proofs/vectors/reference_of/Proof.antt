@@ -11,10 +11,16 @@ largest-of-requires : tie.Need-largest-of-requires
 largest-of-requires c κs = search needs
 
 returns : tie.Need-returns
-returns c = let s = c .before .before in reference-near (s .args .dimension) (s .args .s) (s .pre .0) (s .pre .1) (c .before .largest-of .result) (c .before .largest-of .ensures) (c .if1 .taken)
+returns c =
+    let s = c .before .before in
+    reference-near (s .args .dimension) (s .args .s) (s .pre .0) (s .pre .1) (c .before .largest-of .result)
+    (c .before .largest-of .ensures) (c .if1 .taken)
 
 returns-2 : tie.Need-returns-2
-returns-2 c = let s = c .before .before .before in reference-one (s .args .dimension) (s .args .s) (s .pre .0) (s .pre .1) (c .before .before .largest-of .result) (c .before .before .largest-of .ensures) (c .before .if1 .left) (c .if2 .taken)
+returns-2 c =
+    let s = c .before .before .before in
+    reference-one (s .args .dimension) (s .args .s) (s .pre .0) (s .pre .1) (c .before .before .largest-of .result)
+    (c .before .before .largest-of .ensures) (c .before .if1 .left) (c .if2 .taken)
 
 smallest-of-requires : tie.Need-smallest-of-requires
 smallest-of-requires c κs = search needs
@@ -74,7 +80,8 @@ returns-3 c =
     let s = c .before .before .before .before .before .before .before in
     let l = c .before .before .before .before .before .before in
     reference-two (s .args .dimension) (s .args .s) (s .pre .0) (s .pre .1) (l .largest-of .result) (l .largest-of .ensures)
-    (c .before .before .before .smallest-of .result) (c .before .before .before .smallest-of .ensures) (c .before .before .before .before .before .if1 .left) (c .before .before .before .before .if2 .left) (c .if3 .taken)
+    (c .before .before .before .smallest-of .result) (c .before .before .before .smallest-of .ensures)
+    (c .before .before .before .before .before .if1 .left) (c .before .before .before .before .if2 .left) (c .if3 .taken)
 
 mul-result-2 : tie.Need-mul-result-2
 unfolding large middle small
@@ -90,18 +97,23 @@ mul-result-3 c = omega (arith, triangle-most (middle (c .before)) (most (c .befo
 
 add-result-3 : tie.Need-add-result-3
 unfolding large middle small
-add-result-3 c = omega (arith, most (c .before), triangle-most (middle (c .before)) (most (c .before) .1), div-le-self (middle (c .before) * (middle (c .before) + 1)) 2)
+add-result-3 c =
+    omega
+    (arith, most (c .before), triangle-most (middle (c .before)) (most (c .before) .1), div-le-self (middle (c .before) * (middle (c .before) + 1)) 2)
 
 add-result-4 : tie.Need-add-result-4
 unfolding large middle small
-add-result-4 c = omega (arith, most (c .before), triangle-most (middle (c .before)) (most (c .before) .1), div-le-self (middle (c .before) * (middle (c .before) + 1)) 2)
+add-result-4 c =
+    omega
+    (arith, most (c .before), triangle-most (middle (c .before)) (most (c .before) .1), div-le-self (middle (c .before) * (middle (c .before) + 1)) 2)
 
 returns-4 : tie.Need-returns-4
 returns-4 c =
     let s = c .before .before .before .before .before .before .before in
     let l = c .before .before .before .before .before .before in
     reference-three (s .args .dimension) (s .args .s) (s .pre .0) (s .pre .1) (l .largest-of .result) (l .largest-of .ensures)
-    (c .before .before .before .smallest-of .result) (c .before .before .before .smallest-of .ensures) (c .before .before .before .before .before .if1 .left) (c .if3 .left)
+    (c .before .before .before .smallest-of .result) (c .before .before .before .smallest-of .ensures)
+    (c .before .before .before .before .before .if1 .left) (c .if3 .left)
 
 pub reference-of-spec : {M : Type 1} → statement M
 reference-of-spec =

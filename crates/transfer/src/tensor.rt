@@ -98,36 +98,18 @@ fn transfer_axes(
     requires { ⌜ Shape dimension order × (length (now operators) ≡ (order + order) * order) × (length (now first) ≡ order ^ dimension) × (length (now second) ≡ order ^ dimension) ⌝ }
     ensures { λ _. ⌜ (now (first .exit), now (second .exit)) ≡ ends (along order (order ^ (dimension - 1)) child transpose (now (operators .entry))) dimension (now (first .entry)) (now (second .entry)) ⌝ }
 {
-    let width = common::power(order, dimension - 1);
-    let last = dimension - 1;
-    transfer_axis(
-        order,
-        width,
-        child,
-        transpose,
-        last,
-        operators,
-        first,
-        second,
-    );
+    let span = common::power(order, dimension - 1);
+    let top = dimension - 1;
+    transfer_axis(order, span, child, transpose, top, operators, first, second);
     if dimension < 2 {
         return;
     }
-    let middle = dimension - 2;
-    transfer_axis(
-        order,
-        width,
-        child,
-        transpose,
-        middle,
-        operators,
-        second,
-        first,
-    );
+    let mid = dimension - 2;
+    transfer_axis(order, span, child, transpose, mid, operators, second, first);
     if dimension < 3 {
         return;
     }
-    transfer_axis(order, width, child, transpose, 0, operators, first, second);
+    transfer_axis(order, span, child, transpose, 0, operators, first, second);
 }
 
 // The lowest refusal, or 0.

@@ -14,8 +14,8 @@ sub-power c = c .before .before .before .pre .0 .dimension-least
 power-requires : tie.Need-power-requires
 power-requires c κs = let s = c .before .before .before in (s .pre .0 .order-most, omega (arith, s .pre .0 .dimension-most))
 
-sub-last : tie.Need-sub-last
-sub-last c = c .before .before .before .before .pre .0 .dimension-least
+sub-top : tie.Need-sub-top
+sub-top c = c .before .before .before .before .pre .0 .dimension-least
 
 transfer-axis-requires : tie.Need-transfer-axis-requires
 transfer-axis-requires c κs =
@@ -92,7 +92,7 @@ transfer-axes-spec =
     (tie.spec
     sub-power
     power-requires
-    sub-last
+    sub-top
     transfer-axis-requires
     same-length
     same-length-2

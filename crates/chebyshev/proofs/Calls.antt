@@ -9,11 +9,11 @@ use lib.Ieee.{Float}
 use lib.ListN.{length}
 use borrow.Author.Tests.{eqb-true, le-leb, lt-leb, eq-eqb, ne-eqb}
 use Rattle.common.specs.Lists.{tabulate}
-use Rattle.common.specs.Refusals.{isOrder, orderNumber}
+use Rattle.common.specs.Refusals.{sizeIf, isOrder, orderNumber}
 use Rattle.common.proofs.Cases.{by-bool, inside-low, inside-high}
 use Rattle.common.proofs.Limits.{order-in, order-out, call-refused, call-done, call-refused₂, call-done₂}
 use Rattle.chebyshev.specs.Nodes.{node, nodesNumber, nodesCall}
-use Rattle.chebyshev.specs.Polynomials.{T, T′, atPoints, derived, polynomialsNumber, polynomialsCall}
+use Rattle.chebyshev.specs.Polynomials.{T, T′, atPoints, polynomialsNumber, polynomialsCall}
 
 -- THE NODES
 
@@ -54,7 +54,7 @@ module _ (p : ℕ) (l : List Float) (r : ℕ) (e : r ≡ nodesNumber p (length l
 pub record Lengths (p P : ℕ) (with : Bool) (n v d : ℕ) : Type 0 where
   pub points : n ≡ P
   pub values : v ≡ p * P
-  pub slopes : d ≡ derived with (p * P)
+  pub slopes : d ≡ sizeIf with (p * P)
 
 module _ (p P : ℕ) (with : Bool) (n v d : ℕ) where
   pub polynomials-order : (orderNumber p ≡ 0 → ⊥) → orderNumber p ≡ polynomialsNumber p P with n v d
@@ -75,20 +75,20 @@ module _ (p P : ℕ) (with : Bool) (n v d : ℕ) where
       unfolding polynomialsNumber
       polynomials-values e h = rw (order-in p ok, le-leb P 4096 few, eq-eqb n P e, ne-eqb v (p * P) h)
 
-      pub polynomials-slopes : n ≡ P → v ≡ p * P → (d ≡ derived with v → ⊥) → 7 ≡ polynomialsNumber p P with n v d
+      pub polynomials-slopes : n ≡ P → v ≡ p * P → (d ≡ sizeIf with v → ⊥) → 7 ≡ polynomialsNumber p P with n v d
       unfolding polynomialsNumber
       polynomials-slopes e e' h =
-          rw (order-in p ok, le-leb P 4096 few, eq-eqb n P e, eq-eqb v (p * P) e', ne-eqb d (derived with (p * P)) (rw e' at h))
+          rw (order-in p ok, le-leb P 4096 few, eq-eqb n P e, eq-eqb v (p * P) e', ne-eqb d (sizeIf with (p * P)) (rw e' at h))
 
-      pub polynomials-none : n ≡ P → v ≡ p * P → d ≡ derived with v → 0 ≡ polynomialsNumber p P with n v d
+      pub polynomials-none : n ≡ P → v ≡ p * P → d ≡ sizeIf with v → 0 ≡ polynomialsNumber p P with n v d
       unfolding polynomialsNumber
       polynomials-none e e' e'' =
-          rw (order-in p ok, le-leb P 4096 few, eq-eqb n P e, eq-eqb v (p * P) e', eq-eqb d (derived with (p * P)) (rw e' at e''))
+          rw (order-in p ok, le-leb P 4096 few, eq-eqb n P e, eq-eqb v (p * P) e', eq-eqb d (sizeIf with (p * P)) (rw e' at e''))
 
-  lengths : eqb n P && (eqb v (p * P) && eqb d (derived with (p * P))) ≡ true → Lengths p P with n v d
+  lengths : eqb n P && (eqb v (p * P) && eqb d (sizeIf with (p * P))) ≡ true → Lengths p P with n v d
   lengths h =
-      let one = and-eq-true-iff (eqb n P) (eqb v (p * P) && eqb d (derived with (p * P))) .0 h in
-      let two = and-eq-true-iff (eqb v (p * P)) (eqb d (derived with (p * P))) .0 (one .1) in
+      let one = and-eq-true-iff (eqb n P) (eqb v (p * P) && eqb d (sizeIf with (p * P))) .0 h in
+      let two = and-eq-true-iff (eqb v (p * P)) (eqb d (sizeIf with (p * P))) .0 (one .1) in
       record { points = eqb-true _ _ (one .0); values = eqb-true _ _ (two .0); slopes = eqb-true _ _ (two .1) }
 
   pub polynomials-accepted : polynomialsNumber p P with n v d ≡ 0 → Lengths p P with n v d
@@ -96,7 +96,7 @@ module _ (p P : ℕ) (with : Bool) (n v d : ℕ) where
   polynomials-accepted =
       by-bool (isOrder p)
       (λ e. rw e (by-bool (leb P 4096)
-      (λ e'. rw e' (by-bool (eqb n P && (eqb v (p * P) && eqb d (derived with (p * P))))
+      (λ e'. rw e' (by-bool (eqb n P && (eqb v (p * P) && eqb d (sizeIf with (p * P))))
       (λ e'' _. lengths e'')
       (λ e''. rw e'' λ z. absurd (omega arith))))
       (λ e'. rw e' λ z. absurd (omega arith))))

@@ -1,13 +1,13 @@
 -- The Chebyshev polynomials and their derivatives at floats, operation by operation, from the recurrence; and what the call leaves.
 use mathlib.Core.Bool.{Bool, cond, _&&_}
 use mathlib.Core.List.{List, []}
-use Prim.Native.Nat.{ℕ, zero, suc, _*_}
+use Prim.Native.Nat.{ℕ, zero, suc, _+_, _*_}
 use lib.Dec.{leb, eqb}
 use lib.Ieee.{Float, nan}
 use lib.ListN.{length, getD}
 use Rattle.common.specs.Floats.{plus, minus, times, zero₆₄, one₆₄, two₆₄}
 use Rattle.common.specs.Matrices.{columnMajor}
-use Rattle.common.specs.Refusals.{noOrder, noCount, wrongLength, unless, isOrder, left}
+use Rattle.common.specs.Refusals.{noOrder, noCount, wrongLength, sizeIf, unless, isOrder, left}
 
 -- T0 = 1, T1 = x, Tj = (2x)*T(j-1) - T(j-2)
 unfoldable pub T : (j : ℕ) → Float → Float
@@ -21,20 +21,20 @@ T′ zero x = zero₆₄
 T′ (suc zero) x = one₆₄
 T′ (suc (suc j)) x = minus (plus (times two₆₄ (T (suc j) x)) (times (times two₆₄ x) (T′ (suc j) x))) (T′ j x)
 
+-- T k at node i of an order is the lent entry
+abbrev pub nodeT : (p : ℕ) → (polynomials : List Float) → (i k : ℕ) → Float
+nodeT p polynomials i k = getD polynomials (k * p + i) nan
+
 -- one row a point, one column for each j below the order
 abbrev pub atPoints : (ℕ → Float → Float) → (order rows : ℕ) → (points : List Float) → List Float
 atPoints f p P points = columnMajor P p (λ i j. f j (getD points i nan))
 
 -- THE CALL
 
--- how many derivatives there are
-abbrev pub derived : (with : Bool) → (size : ℕ) → ℕ
-derived with n = cond with n 0
-
 unfoldable pub polynomialsNumber : (p P : ℕ) → (with : Bool) → (points values slopes : ℕ) → ℕ
 polynomialsNumber p P with n v d =
     unless (isOrder p) noOrder
-    (unless (leb P 4096) noCount (unless (eqb n P && (eqb v (p * P) && eqb d (derived with (p * P)))) wrongLength 0))
+    (unless (leb P 4096) noCount (unless (eqb n P && (eqb v (p * P) && eqb d (sizeIf with (p * P)))) wrongLength 0))
 
 -- its number and both buffers after it
 unfoldable pub polynomialsCall : (p P : ℕ) → (with : Bool) → (points values slopes : List Float) → ℕ × List Float × List Float

@@ -4,7 +4,7 @@ ghost use Prim.Native.Nat.{_+_, _*_, _-_, _<_, _≤_};
 ghost use lib.Ieee.{nan};
 ghost use lib.ListN.{length, getD};
 ghost use Rattle.common.specs.Lists.{stretch};
-ghost use Rattle.chebyshev.specs.Polynomials.{T, T′, atPoints, derived, polynomialsNumber, polynomialsCall};
+ghost use Rattle.chebyshev.specs.Polynomials.{T, T′, atPoints, polynomialsNumber, polynomialsCall};
 ghost use Rattle.chebyshev.specs.Working.{nextT, nextT′, columnT, columnT′};
 
 // The next column of T, at place `at`, from the two columns before it.
@@ -90,13 +90,6 @@ fn fill_derivatives(order: usize, rows: usize, points: &[f64], tn: &[f64], dtn: 
     }
 }
 
-// How many derivatives there are.
-fn derived_of(with_derivatives: bool, size: usize) -> usize
-    ensures { λ r. ⌜ r ≡ derived «with_derivatives» size ⌝ }
-{
-    if with_derivatives { size } else { 0 }
-}
-
 // The lowest refusal, or 0. A product of counts is made once they are in range.
 fn polynomials_number(
     order: usize,
@@ -121,7 +114,7 @@ fn polynomials_number(
     if tn != order * rows {
         return common::WRONG_LENGTH;
     }
-    if dtn != derived_of(with_derivatives, tn) {
+    if dtn != common::size_if(with_derivatives, tn) {
         return common::WRONG_LENGTH;
     }
     0

@@ -1,12 +1,13 @@
 -- The contracts of this crate determine their results. Assumes nothing.
 use mathlib.Core.Path.{_≡_, sym, _∙_}
+use mathlib.Core.Bool.{Bool}
 use mathlib.Core.List.{List}
 use Prim.Native.Nat.{ℕ, _+_, _^_}
 use lib.Ieee.{Float, nan}
 use lib.ListN.{getD}
 use Rattle.common.specs.Lists.{stretch}
-use Rattle.common.specs.Floats.{plus, times, dotOf}
-use Rattle.common.specs.Refusals.{orderNumber, shapeNumber}
+use Rattle.common.specs.Floats.{plus, times, float, dotOf}
+use Rattle.common.specs.Refusals.{isCell, sizeIf, orderNumber, shapeNumber}
 
 -- two values that equal a third
 module _ {A : Type 0} where
@@ -38,3 +39,12 @@ add-scaled-determined rows source from factor at column exit exit' =
 copy-column-determined : (rows : ℕ) (source : List Float) (at : ℕ) (column exit exit' : List Float) →
     exit ≡ stretch at rows (λ i. getD source i nan) column → exit' ≡ stretch at rows (λ i. getD source i nan) column → exit ≡ exit'
 copy-column-determined rows source at column exit exit' = coincide exit exit' (stretch at rows (λ i. getD source i nan) column)
+
+is-cell-determined : (length : Float) (r r' : Bool) → r ≡ isCell length → r' ≡ isCell length → r ≡ r'
+is-cell-determined length r r' = coincide r r' (isCell length)
+
+size-if-determined : (wanted : Bool) (size r r' : ℕ) → r ≡ sizeIf wanted size → r' ≡ sizeIf wanted size → r ≡ r'
+size-if-determined wanted size r r' = coincide r r' (sizeIf wanted size)
+
+float-of-determined : (order : ℕ) (r r' : Float) → r ≡ float order → r' ≡ float order → r ≡ r'
+float-of-determined order r r' = coincide r r' (float order)

@@ -40,9 +40,17 @@ wrongLength = 7
 abbrev pub noCell : ℕ
 noCell = 8
 
+-- a point's or a centre's coordinate is not finite
+abbrev pub notFinite : ℕ
+notFinite = 9
+
 -- The number n unless the test holds, and then what is left to say. Calls test from the lowest number up, so the lowest wins.
 abbrev pub unless : Bool → ℕ → ℕ → ℕ
 unless holds n rest = cond holds rest n
+
+-- the size of a buffer that is empty where it is not wanted
+abbrev pub sizeIf : (wanted : Bool) → (size : ℕ) → ℕ
+sizeIf wanted n = cond wanted n 0
 
 -- THE LIMITS
 

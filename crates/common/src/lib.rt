@@ -4,8 +4,8 @@ ghost use Prim.Native.Nat.{ℕ, _+_, _*_, _^_, _<_, _≤_};
 ghost use lib.Ieee.{nan};
 ghost use lib.ListN.{length, getD};
 ghost use Rattle.common.specs.Lists.{stretch};
-ghost use Rattle.common.specs.Floats.{plus, times, dotOf};
-ghost use Rattle.common.specs.Refusals.{orderNumber, shapeNumber};
+ghost use Rattle.common.specs.Floats.{plus, times, float, dotOf};
+ghost use Rattle.common.specs.Refusals.{isCell, sizeIf, orderNumber, shapeNumber};
 
 // The numbers with which calls refuse; 0 is done.
 pub const NO_DIMENSION: u8 = 1;
@@ -23,6 +23,13 @@ pub const NOT_ZERO: u8 = 6;
 pub const WRONG_LENGTH: u8 = 7;
 
 pub const NO_CELL: u8 = 8;
+
+pub const NOT_FINITE: u8 = 9;
+
+// The shortest and the longest cell: 2^-20 and 2^30.
+const SHORTEST: f64 = 0.00000095367431640625;
+
+const LONGEST: f64 = 1073741824.0;
 
 // The refusal that an order brings, or 0.
 pub fn order_number(order: usize) -> u8
@@ -48,6 +55,33 @@ pub fn shape_number(dimension: usize, order: usize) -> u8
         return NO_DIMENSION;
     }
     order_number(order)
+}
+
+// Both tests fail for a NaN.
+pub fn is_cell(length: f64) -> bool
+    ensures { λ r. ⌜ r ≡ isCell length ⌝ }
+{
+    if length >= SHORTEST {
+        if length <= LONGEST {
+            return true;
+        }
+    }
+    false
+}
+
+// The size of a buffer that is empty where it is not wanted.
+pub fn size_if(is_wanted: bool, size: usize) -> usize
+    ensures { λ r. ⌜ r ≡ sizeIf «is_wanted» size ⌝ }
+{
+    if is_wanted { size } else { 0 }
+}
+
+// An order as a float: no rounding.
+pub fn float_of(order: usize) -> f64
+    requires { ⌜ order ≤ 16 ⌝ }
+    ensures { λ r. ⌜ r ≡ float order ⌝ }
+{
+    order as f64
 }
 
 pub fn power(base: usize, exponent: usize) -> usize

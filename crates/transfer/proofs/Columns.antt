@@ -1,4 +1,4 @@
--- A column of the operators: its sums grow term by term, and all columns make the matrix. Assumes nothing.
+-- A column of the operators, summed and scaled; and all columns make the matrix. Assumes nothing.
 use mathlib.Core.Path.{_≡_, refl, sym, ap, _∙_}
 use mathlib.Core.List.{List}
 use Prim.Native.Nat.{ℕ, suc, _+_, _-_, _*_, _<_, _≤_}
@@ -7,14 +7,13 @@ use native.Mathlib.Omega.{arith}
 use lib.Ieee.{Float, nan}
 use lib.ListN.{length, getD}
 use borrow.Author.Tests.{lt-ltb, le-ltb}
-use Rattle.common.specs.Floats.{plus, minus, times, over, zero₆₄, one₆₄, two₆₄, half₆₄, float, sums}
+use Rattle.common.specs.Floats.{plus, minus, times, over, one₆₄, two₆₄, half₆₄, float}
 use Rattle.common.specs.Lists.{stretch}
 use Rattle.common.specs.Matrices.{cell, columnMajor}
 use Rattle.common.proofs.Fill.{stretch-inside, stretch-cong, stretch-again, fill-on, fill-all}
 use Rattle.common.proofs.Matrices.{cell-at}
-use Rattle.common.proofs.Sums.{sums-more}
 use Rattle.chebyshev.specs.Polynomials.{T}
-use Rattle.transfer.specs.Operators.{childNode, nodeT, operator}
+use Rattle.transfer.specs.Operators.{childNode, operator}
 use Rattle.transfer.specs.Working.{partOf}
 
 -- A CHILD'S NODE
@@ -34,28 +33,6 @@ T-next k x t next h h' =
     let one : k + 1 ≡ suc k = add-one k in
     let two : k + 1 + 1 ≡ suc (suc k) = omega arith in
     rw (two, h, h', one)
-
--- THE SUMS of a column
-
-module _ (p : ℕ) (poly : List Float) (x : Float) (at : ℕ) (l : List Float) (fits : at + p ≤ length l) where
-  -- none yet, where the column holds zeros
-  pub sums-none : (now : List Float) → now ≡ stretch at p (λ i. zero₆₄) l → now ≡ stretch at p (partOf p poly x 0) now
-  unfolding sums
-  sums-none now e = e ∙ rw e (sym (stretch-again at p (λ i. zero₆₄) (λ i. zero₆₄) l fits))
-
-  -- one term more
-  pub sums-next : (now : List Float) (k from : ℕ) (t : Float) → now ≡ stretch at p (partOf p poly x k) l → from ≡ k * p → t ≡ T k x →
-      stretch at p (λ i. plus (getD now (at + i) nan) (times (getD poly (from + i) nan) t)) now ≡ stretch at p (partOf p poly x (k + 1)) l
-  sums-next now k from t e f h =
-      rw (e, f, h)
-      (stretch-again at p (partOf p poly x k) _ l fits
-      ∙ stretch-cong at p _ (partOf p poly x (k + 1)) l
-      (λ i b. rw (stretch-inside at (partOf p poly x k) l p i nan b (omega arith)) (sums-more (λ s. times (nodeT p poly i s) (T s x)) k _ refl)))
-
-  -- all of them, over the column as it was before the zeros
-  pub sums-all : (zeros now : List Float) → zeros ≡ stretch at p (λ i. zero₆₄) l → now ≡ stretch at p (partOf p poly x p) zeros →
-      now ≡ stretch at p (partOf p poly x p) l
-  sums-all zeros now e h = h ∙ rw e (stretch-again at p (λ i. zero₆₄) (partOf p poly x p) l fits)
 
 -- A WHOLE COLUMN, summed and scaled, after those before it
 

@@ -8,16 +8,12 @@ use lib.ListN.{length, getD}
 use Rattle.common.specs.Floats.{plus, minus, times, over, one₆₄, two₆₄, half₆₄, float, sums}
 use Rattle.common.specs.Matrices.{columnMajor}
 use Rattle.common.specs.Refusals.{noOrder, wrongLength, unless, isOrder, left}
-use Rattle.chebyshev.specs.Polynomials.{T}
+use Rattle.chebyshev.specs.Polynomials.{T, nodeT}
 
 -- child nodes are (x-1)*0.5, then (x+1)*0.5
 unfoldable pub childNode : (p : ℕ) → (nodes : List Float) → (c : ℕ) → Float
 childNode p nodes c =
     cond (ltb c p) (times (minus (getD nodes c nan) one₆₄) half₆₄) (times (plus (getD nodes (c - p) nan) one₆₄) half₆₄)
-
--- T k at node i is the lent entry
-abbrev pub nodeT : (p : ℕ) → (polynomials : List Float) → (i k : ℕ) → Float
-nodeT p polynomials i k = getD polynomials (k * p + i) nan
 
 -- (sum of T_k(node)*T_k(child)) * (2/p), less 1/p
 unfoldable pub operator : (p : ℕ) → (nodes polynomials : List Float) → (i c : ℕ) → Float

@@ -3,7 +3,7 @@ ghost use mathlib.Core.Path.{_≡_};
 ghost use Prim.Native.Nat.{_+_, _*_, _<_, _≤_};
 ghost use lib.Ieee.{nan};
 ghost use lib.ListN.{length, getD};
-ghost use Rattle.common.specs.Floats.{minus, times, over, float};
+ghost use Rattle.common.specs.Floats.{minus, times};
 ghost use Rattle.common.specs.Lists.{stretch};
 ghost use Rattle.common.specs.Matrices.{columnMajor};
 ghost use Rattle.transfer.specs.Operators.{childNode, operator, operatorsNumber, operatorsCall};
@@ -52,19 +52,12 @@ fn scale_column(rows: usize, factor: f64, offset: f64, at: usize, operators: &mu
     }
 }
 
-fn share_of(value: f64, order: usize) -> f64
-    requires { ⌜ order ≤ 16 ⌝ }
-    ensures { λ r. ⌜ r ≡ over value (float order) ⌝ }
-{
-    value / order as f64
-}
-
 fn fill_operators(order: usize, nodes: &[f64], polynomials: &[f64], operators: &mut [f64])
     requires { ⌜ (order ≤ 16) × (length (now nodes) ≡ order) × (length (now polynomials) ≡ order * order) × (length (now operators) ≡ (order + order) * order) ⌝ }
     ensures { λ _. ⌜ now (operators .exit) ≡ columnMajor order (order + order) (operator order (now (nodes .entry)) (now (polynomials .entry))) ⌝ }
 {
-    let factor = share_of(2.0, order);
-    let offset = share_of(1.0, order);
+    let factor = 2.0 / common::float_of(order);
+    let offset = 1.0 / common::float_of(order);
     let mut c = 0;
     let mut at = 0;
     while c < order + order {

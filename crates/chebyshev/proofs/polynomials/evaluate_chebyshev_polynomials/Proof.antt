@@ -5,7 +5,8 @@ use mathlib.Core.List.{[]}
 use Prim.Native.Nat.{_*_}
 use borrow.Author.Needs.{needs}
 use lib.ListN.{length}
-use Rattle.chebyshev.specs.Polynomials.{T′, atPoints, derived}
+use Rattle.common.specs.Refusals.{sizeIf}
+use Rattle.chebyshev.specs.Polynomials.{T′, atPoints}
 use Rattle.chebyshev.proofs.Calls.{Lengths, polynomials-accepted, polynomials-refused, polynomials-done, none}
 use Rattle.chebyshev.proofs.polynomials.evaluate_chebyshev_polynomials.Statement.{statement}
 use Rattle.chebyshev.proofs.polynomials.evaluate_chebyshev_polynomials.Tie as tie
@@ -34,7 +35,7 @@ fill-derivatives-requires : tie.Need-fill-derivatives-requires
 fill-derivatives-requires c κs =
     let a = c .before .before .before .before .before .before .before .before .before .before .before .before .args in
     let h = ok (c .before .before .before .before .before .before .before) in
-    (h .points, c .before .before .before .before .before .fill-polynomials .ensures, h .slopes ∙ ap (λ (t : Bool). derived t (a .order * a .rows)) (c .before .before .if2 .taken))
+    (h .points, c .before .before .before .before .before .fill-polynomials .ensures, h .slopes ∙ ap (λ (t : Bool). sizeIf t (a .order * a .rows)) (c .before .before .if2 .taken))
 
 same-length : tie.Need-same-length
 same-length c = search needs
@@ -61,7 +62,7 @@ returns-3 c =
     polynomials-done (a .order) (a .rows) (a .with-derivatives) (a .points .now) (a .tn .now) (a .dtn .now) _
     (e .before .polynomials-number .ensures) _ _ (e .if1 .left)
     (c .before .before .before .fill-polynomials .ensures)
-    (none (a .dtn .now) (ok e .slopes ∙ ap (λ (t : Bool). derived t (a .order * a .rows)) (c .if2 .left))
+    (none (a .dtn .now) (ok e .slopes ∙ ap (λ (t : Bool). sizeIf t (a .order * a .rows)) (c .if2 .left))
     ∙ ap (λ (t : Bool). cond t (atPoints T′ (a .order) (a .rows) (a .points .now)) []) (sym (c .if2 .left)))
 
 pub evaluate-chebyshev-polynomials-spec : {M : Type 1} → statement M

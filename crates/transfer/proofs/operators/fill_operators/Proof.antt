@@ -1,10 +1,11 @@
 -- `transfer::operators::fill_operators` meets its contract. The loop keeps: the columns before c are filled, and the rest is as it was. Assumes nothing.
 use borrow.Author.Needs.{needs}
-use mathlib.Core.Path.{_≡_, refl, sym, _∙_}
+use mathlib.Core.Path.{_≡_, refl, sym, ap, _∙_}
 use Prim.Native.Nat.{_+_, _-_, _*_, _≤_}
 use native.Mathlib.Nat.{zero-mul}
 use native.Mathlib.Omega.{arith}
 use lib.ListN.{length}
+use Rattle.common.specs.Floats.{over, one₆₄, two₆₄}
 use Rattle.common.specs.Lists.{stretch}
 use Rattle.common.specs.Matrices.{cell}
 use Rattle.transfer.specs.Operators.{operator}
@@ -28,11 +29,11 @@ fits i =
     let s = i .before .before .before .before .before .before .before in
     rw (l .inv .2, s .pre .3) (column-fits (l .c) (s .args .order + s .args .order) (s .args .order) (l .at) (i .loop-test .taken) (l .inv .1))
 
-share-of-requires : tie.Need-share-of-requires Inv-loop μ-loop
-share-of-requires c κs = c .before .before .before .pre .0
+float-of-requires : tie.Need-float-of-requires Inv-loop μ-loop
+float-of-requires c κs = c .before .before .before .pre .0
 
-share-of-requires-2 : tie.Need-share-of-requires-2 Inv-loop μ-loop
-share-of-requires-2 c κs = c .before .before .before .before .pre .0
+float-of-requires-2 : tie.Need-float-of-requires-2 Inv-loop μ-loop
+float-of-requires-2 c κs = c .before .before .before .before .pre .0
 
 loop-holds : tie.Need-loop-holds Inv-loop μ-loop
 loop-holds c = (omega arith, sym (zero-mul _), refl, refl)
@@ -77,7 +78,7 @@ loop-again c =
           (l .at) _ _ _ (l .inv .1)
           (rw (s .pre .3) (column-fits (l .c) (a .order + a .order) (a .order) (l .at) (i .loop-test .taken) (l .inv .1)))
           (c .before .before .before .before .before .before .before .before .child-node .ensures)
-          (i .before .before .before .share-of .ensures) (i .before .before .share-of2 .ensures) (l .inv .3) (summed .ensures)
+          (ap (over two₆₄) (i .before .before .before .float-of .ensures)) (ap (over one₆₄) (i .before .before .float-of2 .ensures)) (l .inv .3) (summed .ensures)
           (l .inv .2),
     )
 
@@ -98,8 +99,8 @@ fill-operators-spec =
     (tie.spec
     Inv-loop
     μ-loop
-    share-of-requires
-    share-of-requires-2
+    float-of-requires
+    float-of-requires-2
     loop-holds
     add-loop
     child-node-requires

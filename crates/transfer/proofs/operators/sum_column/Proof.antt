@@ -7,9 +7,10 @@ use native.Mathlib.Omega.{arith}
 use lib.ListN.{length}
 use Rattle.common.specs.Lists.{stretch}
 use Rattle.chebyshev.specs.Polynomials.{T}
-use Rattle.transfer.specs.Working.{partOf}
+use Rattle.transfer.specs.Working.{termOf, partOf}
 use Rattle.common.proofs.Matrices.{next-column, column-fits}
-use Rattle.transfer.proofs.Columns.{T-next, sums-none, sums-next, sums-all}
+use Rattle.common.proofs.Sums.{adding-none, adding-next, adding-all}
+use Rattle.transfer.proofs.Columns.{T-next}
 use Rattle.transfer.proofs.operators.sum_column.Statement.{statement}
 use Rattle.transfer.proofs.operators.sum_column.Tie as tie
 
@@ -29,7 +30,7 @@ unfolding T
 loop-holds c =
     let s = c .before .before .before .before .before .before in
     let a = s .args in
-    (omega arith, sym (zero-mul _), refl, refl, refl, sums-none (a .order) (a .polynomials .now) (a .x) (a .at) (a .operators .now) (s .pre .1) _ (c .before .before .fill-with .ensures))
+    (omega arith, sym (zero-mul _), refl, refl, refl, adding-none (a .at) (a .order) (termOf (a .order) (a .polynomials .now) (a .x)) (a .operators .now) (s .pre .1) _ (c .before .before .fill-with .ensures))
 
 add-scaled-requires : tie.Need-add-scaled-requires Inv-loop μ-loop
 add-scaled-requires c κs =
@@ -66,8 +67,8 @@ loop-again c =
       l .inv .3,
       T-next (l .k) (a .x) (l .t) (l .next) (l .inv .2) (l .inv .3),
       call .kept .1 .1 .1 .1 .1 .0 ∙ l .inv .4,
-      call .ensures ∙ sums-next (a .order) (a .polynomials .now) (a .x) (a .at) _ fits (l .operators) (l .k) (l .from) (l .t)
-          (l .inv .5) (l .inv .1) (l .inv .2),
+      call .ensures ∙ adding-next (a .at) (a .order) (termOf (a .order) (a .polynomials .now) (a .x)) _ fits (l .operators) (l .k) _
+          (l .inv .5) (λ i b. rw (l .inv .1, l .inv .2)),
     )
 
 same-length : tie.Need-same-length Inv-loop μ-loop
@@ -79,7 +80,7 @@ returns c =
     let s = c .before .before .before .before .before .before .before .before in
     let a = s .args in
     let all : l .k ≡ a .order = omega arith in
-    sums-all (a .order) (a .polynomials .now) (a .x) (a .at) (a .operators .now) (s .pre .1) _ (l .operators)
+    adding-all (a .at) (a .order) (termOf (a .order) (a .polynomials .now) (a .x)) (a .operators .now) (s .pre .1) _ (l .operators) (a .order)
     (c .before .before .before .before .fill-with .ensures) (rw all at (l .inv .5))
 
 pub sum-column-spec : {M : Type 1} → statement M

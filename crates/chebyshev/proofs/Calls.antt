@@ -1,5 +1,5 @@
 -- What the two calls' numbers say, and what the calls then answer and leave. Assumes nothing.
-use mathlib.Core.Path.{_≡_, refl, _∙_}
+use mathlib.Core.Path.{_≡_, refl, ap, _∙_}
 use mathlib.Core.Bool.{Bool, true, cond, _&&_, and-eq-true-iff}
 use mathlib.Core.List.{List, [], _∷_}
 use Prim.Native.Nat.{ℕ, _*_, _<_, _≤_}
@@ -10,8 +10,8 @@ use lib.ListN.{length}
 use borrow.Author.Tests.{eqb-true, le-leb, lt-leb, eq-eqb, ne-eqb}
 use Rattle.common.specs.Lists.{tabulate}
 use Rattle.common.specs.Refusals.{sizeIf, isOrder, orderNumber}
-use Rattle.common.proofs.Cases.{by-bool, inside-low, inside-high}
-use Rattle.common.proofs.Limits.{order-in, order-out, call-refused, call-done, call-refused₂, call-done₂}
+use Rattle.common.proofs.Cases.{by-bool, inside, inside-low, inside-high}
+use Rattle.common.proofs.Limits.{order-in, order-out, left-done, call-refused, call-done, call-refused₂, call-done₂}
 use Rattle.chebyshev.specs.Nodes.{node, nodesNumber, nodesCall}
 use Rattle.chebyshev.specs.Polynomials.{T, T′, atPoints, polynomialsNumber, polynomialsCall}
 
@@ -115,3 +115,13 @@ module _ (p P : ℕ) (with : Bool) (x v d : List Float) (r : ℕ) (e : r ≡ pol
   pub polynomials-done : (v' d' : List Float) → r ≡ 0 → v' ≡ atPoints T p P x → d' ≡ cond with (atPoints T′ p P x) [] → (0, v', d') ≡ polynomialsCall p P with x v d
   unfolding polynomialsCall
   polynomials-done = call-done₂ r _ (atPoints T p P x) v (cond with (atPoints T′ p P x) []) d e
+
+-- a call with the stated lengths has filled both buffers
+pub polynomials-filled : (p P : ℕ) (with : Bool) (x v d v' d' : List Float) (r : ℕ) → 1 ≤ p → p ≤ 16 → P ≤ 4096 →
+    length x ≡ P → length v ≡ p * P → length d ≡ sizeIf with (p * P) → (r, v', d') ≡ polynomialsCall p P with x v d →
+    (v' ≡ atPoints T p P x) × (d' ≡ cond with (atPoints T′ p P x) [])
+unfolding polynomialsCall polynomialsNumber
+polynomials-filled p P with x v d v' d' r least most few hx hv hd e =
+    let none : polynomialsNumber p P with (length x) (length v) (length d) ≡ 0 = rw
+    (inside 1 16 p least most, le-leb P 4096 few, eq-eqb (length x) P hx, eq-eqb (length v) (p * P) hv, eq-eqb (length d) (sizeIf with (p * P)) hd) in
+    (ap (λ (t : ℕ × List Float × List Float). t .1) e ∙ left-done _ _ _ none, ap (λ (t : ℕ × List Float × List Float). t .2) e ∙ left-done _ _ _ none)

@@ -1,6 +1,6 @@
 -- A proof goes by a test's two answers, with the fact and the equation that each brings. Assumes nothing.
-use mathlib.Core.Path.{_≡_, refl}
-use mathlib.Core.Bool.{Bool, true, false, and-eq-true-iff}
+use mathlib.Core.Path.{_≡_, refl, sym, ap, _∙_}
+use mathlib.Core.Bool.{Bool, true, false, not, Bool·not-not, and-eq-true-iff}
 use Prim.Native.Nat.{ℕ, suc, _<_, _≤_}
 use native.Mathlib.Omega.{arith}
 use lib.Dec.{leb, ltb, eqb}
@@ -21,6 +21,10 @@ module _ {A : Type 0} where
   -- below suc n: the last, or one before it
   pub by-last : (a n : ℕ) → a < suc n → (a ≡ n → A) → (a < n → A) → A
   by-last a n h f g = by-eq a n (λ e _. f e) (λ e _. g (omega arith))
+
+-- what a negated test says
+pub of-not : (t r : Bool) → not t ≡ r → t ≡ not r
+of-not t r e = sym (Bool·not-not t) ∙ ap not e
 
 -- two functions of an index that agree at each are one
 module _ {A : Type 0} where

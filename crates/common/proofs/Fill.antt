@@ -87,6 +87,15 @@ module _ {A : Type 0} where
     pub stretch-part : (m : ℕ) (part : List A) → n + m ≤ length l → part ≡ tabulate m f → putMid n (n + m - n) l part ≡ stretch n m f l
     stretch-part m part h e = ap (λ (t : List A). take n l ++ (part ++ t)) (post-is n (n + m) l (omega arith)) ∙ rw e
 
+  -- a part of a list, from place n to place e: its length, and what stands in it
+  pub part-length : (n e m : ℕ) (l : List A) → e ≡ n + m → n + m ≤ length l → length (take (e - n) (drop n l)) ≡ m
+  part-length n e m l a h =
+      let size : e - n ≡ m = omega arith in
+      rw size (length-take-le m (drop n l) (omega (arith, length-drop n l)))
+
+  pub part-read : (n e m : ℕ) (l : List A) (i : ℕ) (d : A) → e ≡ n + m → i < m → getD (take (e - n) (drop n l)) i d ≡ getD l (n + i) d
+  part-read n e m l i d a h = getD-take (e - n) (drop n l) i d (omega arith) ∙ getD-drop n l i d
+
   -- the same stretch with other entries, and filled anew
   pub stretch-cong : (n m : ℕ) (f g : ℕ → A) (l : List A) → ((i : ℕ) → i < m → f i ≡ g i) → stretch n m f l ≡ stretch n m g l
   stretch-cong n m f g l h = ap (λ (t : List A). take n l ++ (t ++ drop (n + m) l)) (tabulate-cong m f g h)
@@ -140,6 +149,12 @@ module _ {A : Type 0} where
     pub filling-here : (now : List A) (i : ℕ) (d : A) → Filling n m f before now i → n + m ≤ length before → getD now (n + i) d ≡ getD before (n + i) d
     filling-here now i d h fits = rw (h .made) (rw add-zero at (stretch-after n f before i 0 d (omega (arith, h .most))))
 
+    -- a loop that changes each place in its turn
+    pub changing-more : (g : A → A) (now : List A) (i at : ℕ) (d v : A) → Filling n m f before now i → i < m → n + m ≤ length before → at ≡ n + i →
+        f i ≡ g (getD before (n + i) d) → v ≡ g (getD now at d) → Filling n m f before (set now at v) (i + 1)
+    changing-more g now i at d v h l fits a e w =
+        filling-more now i at d v h l fits a (w ∙ ap g (ap (λ (k : ℕ). getD now k d) a ∙ filling-here now i d h fits) ∙ sym e)
+
     pub filling-done : (now : List A) (i : ℕ) → Filling n m f before now i → m ≤ i → now ≡ stretch n m f before
     filling-done now i h l = let all : i ≡ m = omega (arith, h .most) in rw all at (h .made)
 
@@ -154,6 +169,12 @@ module _ {A : Type 0} where
   fill-read n f l k d h =
       let long : k < length (tabulate n f) = rw length-tabulate h in
       List·getD-append (tabulate n f) (drop (0 + n) l) d k long ∙ getD-tabulate n f k d h
+
+  -- and what no turn has reached
+  pub fill-after : (n : ℕ) (f : ℕ → A) (l : List A) (j : ℕ) (d : A) → n ≤ length l → getD (stretch 0 n f l) (n + j) d ≡ getD l (n + j) d
+  fill-after n f l j d h =
+      let place : 0 + n + j ≡ n + j = omega arith in
+      ap (λ (k : ℕ). getD (stretch 0 n f l) k d) (sym place) ∙ stretch-after 0 f l n j d (omega arith) ∙ ap (λ (k : ℕ). getD l k d) place
 
   -- the next stretch goes on where the last ended
   pub fill-on : (n m : ℕ) (f g : ℕ → A) (l : List A) → ((i : ℕ) → i < m → g i ≡ f (n + i)) → n + m ≤ length l →

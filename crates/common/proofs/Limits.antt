@@ -1,8 +1,8 @@
 -- Bounds for dimensions to 3 and orders to 16, what a shape's number says, and what a call answers. Assumes nothing.
-use mathlib.Core.Path.{_≡_, refl}
+use mathlib.Core.Path.{_≡_, refl, _∙_}
 use mathlib.Core.Bool.{true, false}
-use Prim.Native.Nat.{ℕ, _^_, _≤_}
-use native.Mathlib.Nat.{le-trans, pow-le-pow-left, pow-le-pow-right}
+use Prim.Native.Nat.{ℕ, _*_, _^_, _≤_}
+use native.Mathlib.Nat.{le-trans, one-mul, pow-zero, pow-suc, pow-le-pow-left, pow-le-pow-right}
 use native.Mathlib.Omega.{arith}
 use borrow.Author.Tests.{eq-eqb, ne-eqb}
 use Rattle.common.specs.Refusals.{noDimension, noOrder, unless, isDimension, isOrder, Shape, orderNumber, shapeNumber, left}
@@ -10,6 +10,12 @@ use Rattle.common.proofs.Cases.{by-bool, inside, inside-low, inside-hig
 
 pub power-most : (p n : ℕ) → p ≤ 16 → n ≤ 3 → p ^ n ≤ 4096
 power-most p n hp hn = le-trans (pow-le-pow-left hp n) (pow-le-pow-right {n = 16} (omega arith) hn)
+
+pub power-one : (p : ℕ) → p ^ 1 ≡ p
+power-one p = pow-suc p 0 ∙ rw (pow-zero, one-mul)
+
+pub power-two : (p : ℕ) → p ^ 2 ≡ p * p
+power-two p = pow-suc p 1 ∙ rw power-one
 
 -- an order that is refused, or not
 pub order-in : (p : ℕ) → orderNumber p ≡ 0 → isOrder p ≡ true

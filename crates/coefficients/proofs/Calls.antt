@@ -1,0 +1,106 @@
+-- What the call's number says, by the tests that lead to it, and what the call then answers and leaves. Assumes nothing.
+use mathlib.Core.Path.{_≡_, refl, sym, _∙_}
+use mathlib.Core.Bool.{Bool, true, false, and-eq-true-iff}
+use mathlib.Core.List.{List}
+use Prim.Native.Nat.{ℕ, _*_, _^_, _<_, _≤_}
+use native.Mathlib.Omega.{arith}
+use lib.Dec.{leb, eqb}
+use lib.Ieee.{Float}
+use lib.ListN.{length}
+use borrow.Author.Tests.{eqb-true, leb-true, le-leb, lt-leb}
+use Rattle.common.specs.Refusals.{sizeIf, isDimension, isOrder, isCell, Shape, shapeNumber}
+use Rattle.common.proofs.Cases.{by-bool, inside-low, inside-high}
+use Rattle.common.proofs.Limits.{shape-out, shape-past, call-refused, call-done}
+use Rattle.coefficients.specs.Coefficients.{lengthsFit, allFinite, coefficientsNumber, Memory, after, coefficientsCall}
+use Rattle.coefficients.specs.Working.{Ready}
+
+module _ (D p P : ℕ) (l : Float) (centre points : List Float) (fit : Bool) where
+  pub number-shape : (shapeNumber D p ≡ 0 → ⊥) → shapeNumber D p ≡ coefficientsNumber D p P l centre points fit
+  unfolding coefficientsNumber
+  number-shape h = shape-out D p _ h
+
+  module _ (s : Shape D p) where
+    pub number-count : 4096 < P → 3 ≡ coefficientsNumber D p P l centre points fit
+    unfolding coefficientsNumber
+    number-count h = sym (shape-past D p _ s ∙ rw (lt-leb P 4096 h))
+
+    module _ (few : P ≤ 4096) where
+      pub number-length : fit ≡ false → 7 ≡ coefficientsNumber D p P l centre points fit
+      unfolding coefficientsNumber
+      number-length f = sym (shape-past D p _ s ∙ rw (le-leb P 4096 few, f))
+
+      module _ (f : fit ≡ true) where
+        pub number-cell : isCell l ≡ false → 8 ≡ coefficientsNumber D p P l centre points fit
+        unfolding coefficientsNumber
+        number-cell c = sym (shape-past D p _ s ∙ rw (le-leb P 4096 few, f, c))
+
+        module _ (c : isCell l ≡ true) where
+          pub number-points : allFinite points ≡ false → 9 ≡ coefficientsNumber D p P l centre points fit
+          unfolding coefficientsNumber
+          number-points x = sym (shape-past D p _ s ∙ rw (le-leb P 4096 few, f, c, x))
+
+          pub number-centre : allFinite points ≡ true → allFinite centre ≡ false → 9 ≡ coefficientsNumber D p P l centre points fit
+          unfolding coefficientsNumber
+          number-centre x y = sym (shape-past D p _ s ∙ rw (le-leb P 4096 few, f, c, x, y))
+
+          pub number-none : allFinite points ≡ true → allFinite centre ≡ true → 0 ≡ coefficientsNumber D p P l centre points fit
+          unfolding coefficientsNumber
+          number-none x y = sym (shape-past D p _ s ∙ rw (le-leb P 4096 few, f, c, x, y))
+
+  -- not refused: the shape, the count and the lengths are right
+  pub number-taken : coefficientsNumber D p P l centre points fit ≡ 0 → Shape D p × (P ≤ 4096) × (fit ≡ true)
+  unfolding coefficientsNumber
+  number-taken =
+      by-bool (isDimension D)
+      (λ d. rw d (by-bool (isOrder p)
+      (λ o. rw o (by-bool (leb P 4096)
+      (λ c. rw c (by-bool fit
+      (λ f. rw f λ z. (
+        record {
+          dimension-least = inside-low 1 3 D d;
+          dimension-most = inside-high 1 3 D d;
+          order-least = inside-low 1 16 p o;
+          order-most = inside-high 1 16 p o;
+        },
+        leb-true P 4096 c,
+        refl,
+      ))
+      (λ f. rw f λ z. absurd (omega arith))))
+      (λ c. rw c λ z. absurd (omega arith))))
+      (λ o. rw o λ z. absurd (omega arith))))
+      (λ d. rw d λ z. absurd (omega arith))
+
+module _ (D p P : ℕ) (with : Bool) (n c t v g f d : ℕ) where
+  -- the lengths are as stated
+  pub ready : Shape D p → P ≤ 4096 → lengthsFit D p P with n c t v g f d ≡ true → Ready D p P with n c t v g f d
+  unfolding lengthsFit
+  ready s few h =
+      let one = and-eq-true-iff (eqb n (D * P)) _ .0 h in
+      let two = and-eq-true-iff (eqb c D) _ .0 (one .1) in
+      let three = and-eq-true-iff (eqb t (p * p)) _ .0 (two .1) in
+      let four = and-eq-true-iff (eqb v (p ^ D * P)) _ .0 (three .1) in
+      let five = and-eq-true-iff (eqb g (sizeIf with (D * p ^ D * P))) _ .0 (four .1) in
+      let six = and-eq-true-iff (eqb f (D * p * P)) _ .0 (five .1) in
+      record {
+        shape = s;
+        few = few;
+        points = eqb-true _ _ (one .0);
+        centre = eqb-true _ _ (two .0);
+        polynomials = eqb-true _ _ (three .0);
+        values = eqb-true _ _ (four .0);
+        gradients = eqb-true _ _ (five .0);
+        factors = eqb-true _ _ (six .0);
+        slopes = eqb-true _ _ (six .1);
+      }
+
+-- THE CALL
+
+module _ (D p P : ℕ) (l : Float) (with : Bool) (centre t x v g f d : List Float) (r : ℕ)
+    (e : r ≡ coefficientsNumber D p P l centre x (lengthsFit D p P with (length x) (length centre) (length t) (length v) (length g) (length f) (length d))) where
+  pub coefficients-refused : (r ≡ 0 → ⊥) → (r, (x, v, g, f, d)) ≡ coefficientsCall D p P l with centre t (x, v, g, f, d)
+  unfolding coefficientsCall
+  coefficients-refused = call-refused r _ (after D p P l with centre t x) (x, v, g, f, d) e
+
+  pub coefficients-done : (m : Memory) → r ≡ 0 → m ≡ after D p P l with centre t x → (0, m) ≡ coefficientsCall D p P l with centre t (x, v, g, f, d)
+  unfolding coefficientsCall
+  coefficients-done m = call-done r _ (after D p P l with centre t x) (x, v, g, f, d) e m

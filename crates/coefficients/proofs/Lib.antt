@@ -1,0 +1,6 @@
+pub mod Finite
+pub mod Products
+pub mod Stretches
+pub mod Calls
+pub mod Result
+pub mod Determined

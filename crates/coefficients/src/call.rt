@@ -1,0 +1,113 @@
+// The call for approximation coefficients.
+ghost use mathlib.Core.Path.{_≡_};
+ghost use lib.ListN.{length as size};
+ghost use Rattle.coefficients.specs.Coefficients.{after, coefficientsCall};
+ghost use Rattle.coefficients.specs.Working.{Ready};
+use crate::columns::fill_gradients;
+use crate::columns::fill_values;
+use crate::coordinates::scale_points;
+use crate::factors::fill_axes;
+use crate::factors::start_values;
+use crate::limits::Lengths;
+use crate::limits::coefficients_number;
+
+fn fill_coefficients(
+    dimension: usize,
+    order: usize,
+    rows: usize,
+    length: f64,
+    with_gradients: bool,
+    centre: &[f64],
+    node_polynomials: &[f64],
+    points: &mut [f64],
+    values: &mut [f64],
+    gradients: &mut [f64],
+    factors: &mut [f64],
+    slopes: &mut [f64],
+)
+    requires { ⌜ Ready dimension order rows «with_gradients» (size (now points)) (size (now centre)) (size (now «node_polynomials»)) (size (now values)) (size (now gradients)) (size (now factors)) (size (now slopes)) ⌝ }
+    ensures { λ _. ⌜ (now (points .exit), now (values .exit), now (gradients .exit), now (factors .exit), now (slopes .exit)) ≡ after dimension order rows length «with_gradients» (now (centre .entry)) (now («node_polynomials» .entry)) (now (points .entry)) ⌝ }
+{
+    scale_points(dimension, rows, length, centre, points);
+    fill_axes(
+        dimension,
+        order,
+        rows,
+        length,
+        with_gradients,
+        points,
+        node_polynomials,
+        values,
+        gradients,
+        factors,
+        slopes,
+    );
+    fill_gradients(
+        dimension,
+        order,
+        rows,
+        with_gradients,
+        slopes,
+        factors,
+        gradients,
+    );
+    start_values(order * rows, factors);
+    fill_values(dimension, order, rows, factors, values);
+}
+
+// What each node of a cell counts for at each of the points, which become reference coordinates in place: one row a point, one column
+// a node, the last axis fastest; and, if wanted, the slopes of that along each axis, axis after axis. The last two buffers are room to work in.
+pub fn get_approximation_coefficients(
+    dimension: usize,
+    order: usize,
+    rows: usize,
+    length: f64,
+    with_gradients: bool,
+    centre: &[f64],
+    node_polynomials: &[f64],
+    points: &mut [f64],
+    values: &mut [f64],
+    gradients: &mut [f64],
+    factors: &mut [f64],
+    slopes: &mut [f64],
+) -> u8
+    ensures { λ r. ⌜ (r, (now (points .exit), now (values .exit), now (gradients .exit), now (factors .exit), now (slopes .exit))) ≡ coefficientsCall dimension order rows length «with_gradients» (now (centre .entry)) (now («node_polynomials» .entry)) (now (points .entry), now (values .entry), now (gradients .entry), now (factors .entry), now (slopes .entry)) ⌝ }
+{
+    let lent = Lengths {
+        points: points.len(),
+        centre: centre.len(),
+        polynomials: node_polynomials.len(),
+        values: values.len(),
+        gradients: gradients.len(),
+        factors: factors.len(),
+        slopes: slopes.len(),
+    };
+    let refused = coefficients_number(
+        dimension,
+        order,
+        rows,
+        length,
+        with_gradients,
+        centre,
+        points,
+        lent,
+    );
+    if refused != 0 {
+        return refused;
+    }
+    fill_coefficients(
+        dimension,
+        order,
+        rows,
+        length,
+        with_gradients,
+        centre,
+        node_polynomials,
+        points,
+        values,
+        gradients,
+        factors,
+        slopes,
+    );
+    0
+}

@@ -1,0 +1,85 @@
+// The refusals of the coefficients' call.
+ghost use mathlib.Core.Path.{_≡_};
+ghost use Prim.Native.Nat.{_≤_};
+ghost use Rattle.common.specs.Refusals.{Shape};
+ghost use Rattle.coefficients.specs.Coefficients.{lengthsFit, coefficientsNumber};
+use crate::coordinates::all_finite;
+
+// The lengths of the lent buffers.
+pub(crate) struct Lengths {
+    pub points: usize,
+    pub centre: usize,
+    pub polynomials: usize,
+    pub values: usize,
+    pub gradients: usize,
+    pub factors: usize,
+    pub slopes: usize,
+}
+
+fn lengths_fit(
+    dimension: usize,
+    order: usize,
+    rows: usize,
+    with_gradients: bool,
+    lent: Lengths,
+) -> bool
+    requires { ⌜ Shape dimension order × (rows ≤ 4096) ⌝ }
+    ensures { λ r. ⌜ r ≡ lengthsFit dimension order rows «with_gradients» (lent .points) (lent .centre) (lent .polynomials) (lent .values) (lent .gradients) (lent .factors) (lent .slopes) ⌝ }
+{
+    let nodes = common::power(order, dimension);
+    let columns = dimension * order;
+    if lent.points != dimension * rows {
+        return false;
+    }
+    if lent.centre != dimension {
+        return false;
+    }
+    if lent.polynomials != order * order {
+        return false;
+    }
+    if lent.values != nodes * rows {
+        return false;
+    }
+    if lent.gradients != common::size_if(with_gradients, dimension * nodes * rows) {
+        return false;
+    }
+    if lent.factors != columns * rows {
+        return false;
+    }
+    lent.slopes == common::size_if(with_gradients, columns * rows)
+}
+
+// The lowest refusal, or 0.
+pub(crate) fn coefficients_number(
+    dimension: usize,
+    order: usize,
+    rows: usize,
+    length: f64,
+    with_gradients: bool,
+    centre: &[f64],
+    points: &[f64],
+    lent: Lengths,
+) -> u8
+    ensures { λ r. ⌜ r ≡ coefficientsNumber dimension order rows length (now (centre .entry)) (now (points .entry)) (lengthsFit dimension order rows «with_gradients» (lent .points) (lent .centre) (lent .polynomials) (lent .values) (lent .gradients) (lent .factors) (lent .slopes)) ⌝ }
+{
+    let shape = common::shape_number(dimension, order);
+    if shape != 0 {
+        return shape;
+    }
+    if 4096 < rows {
+        return common::NO_COUNT;
+    }
+    if !lengths_fit(dimension, order, rows, with_gradients, lent) {
+        return common::WRONG_LENGTH;
+    }
+    if !common::is_cell(length) {
+        return common::NO_CELL;
+    }
+    if !all_finite(points) {
+        return common::NOT_FINITE;
+    }
+    if !all_finite(centre) {
+        return common::NOT_FINITE;
+    }
+    0
+}

@@ -23,6 +23,8 @@ pub struct Header {
 pub struct Stream {
     pub input: Vec<u8>,
     pub answers: String,
+    /// How many cases were checked to have no operation that rounds.
+    pub unrounded: usize,
     counts: BTreeMap<u8, usize>,
 }
 
@@ -51,6 +53,10 @@ impl Stream {
         for (kind, count) in &self.counts {
             println!("{name}: {count} cases of kind {kind}");
         }
+        println!(
+            "{name}: checked: no operation rounds in {} cases",
+            self.unrounded
+        );
         println!(
             "{name}: {} bytes, {} lines",
             self.input.len(),

@@ -1,6 +1,8 @@
 //! Writes the input and the answers of every comparison into the repository its argument names.
 
 mod check;
+mod coefficients;
+mod exact;
 mod floats;
 mod lookup;
 mod operators;
@@ -8,7 +10,9 @@ mod points;
 mod polynomials;
 mod random;
 mod replay;
+mod special_cells;
 mod transfers;
+mod unrounded;
 
 use floats::Stream;
 use lookup::Lookup;
@@ -63,6 +67,7 @@ fn floats() -> Stream {
     polynomials::ask_all(&mut stream);
     transfers::ask_all(&mut stream);
     points::ask_all(&mut stream);
+    coefficients::ask_all(&mut stream);
     stream
 }
 

@@ -40,20 +40,20 @@ pub fn up_to(most: usize, count: usize) -> usize
     if count <= most { count } else { 0 }
 }
 
-// Fills a list of up to 8,192 floats from the input, and answers whether that had them all.
+// Fills a list of up to 12,288 floats from the input, and answers whether that had them all.
 pub fn read_floats(list: &mut [f64]) -> bool {
-    if 8192 < list.len() {
+    if 12288 < list.len() {
         return false;
     }
-    let mut bytes = [0u8; 65536];
+    let mut bytes = [0u8; 98304];
     let wanted = list.len() * 8;
     let got = io::read_full(STDIN_FILENO, &mut bytes[..wanted]);
     decode(&bytes, list);
     got == wanted
 }
 
-fn decode(bytes: &[u8; 65536], list: &mut [f64])
-    requires { ⌜ length (now list) ≤ 8192 ⌝ }
+fn decode(bytes: &[u8; 98304], list: &mut [f64])
+    requires { ⌜ length (now list) ≤ 12288 ⌝ }
 {
     let mut i = 0;
     while i < list.len() {
@@ -62,8 +62,8 @@ fn decode(bytes: &[u8; 65536], list: &mut [f64])
     }
 }
 
-fn word(bytes: &[u8; 65536], at: usize) -> u64
-    requires { ⌜ at + 8 ≤ 65536 ⌝ }
+fn word(bytes: &[u8; 98304], at: usize) -> u64
+    requires { ⌜ at + 8 ≤ 98304 ⌝ }
 {
     let lower = half(bytes[at], bytes[at + 1], bytes[at + 2], bytes[at + 3]);
     let upper = half(bytes[at + 4], bytes[at + 5], bytes[at + 6], bytes[at + 7]);

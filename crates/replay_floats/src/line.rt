@@ -1,5 +1,5 @@
 // A line of text that is put together in an array. Each function that puts something answers the
-// place past it. What has no room is left out: the longest line of a replay has 1,108 bytes.
+// place past it. What has no room is left out: the longest line of a replay has 1,215 bytes.
 use crate::float::bits_of;
 use crate::float::checksum;
 use libc::STDOUT_FILENO;

@@ -1,6 +1,7 @@
 // Replays calls on floats: reads cases from standard input, and writes a line for what the call of each answers.
 mod blocks;
 mod case;
+mod cells;
 mod float;
 mod line;
 mod operators;
@@ -9,6 +10,7 @@ mod polynomials;
 mod size;
 
 use blocks::replay_block;
+use cells::replay_coefficients;
 use operators::replay_operators;
 use placed::replay_sources;
 use placed::replay_targets;
@@ -28,6 +30,7 @@ fn replay_case() -> bool {
         4 => replay_block(&mut line, case),
         5 => replay_targets(&mut line, case),
         6 => replay_sources(&mut line, case),
+        7 => replay_coefficients(&mut line, case),
         _ => line::put_unknown(&mut line, kind),
     };
     line::print(&mut line, to)

@@ -7,6 +7,7 @@ use crate::line::put_answer;
 use crate::line::put_byte;
 use crate::line::put_number;
 use crate::line::put_short;
+use crate::size::block;
 use crate::size::coordinates;
 
 // Kind 5: the points of a target block.
@@ -53,7 +54,7 @@ fn read_block(
         return put_short(line);
     }
     let mut points = [0.0; 12288];
-    let n = coordinates(case.dimension, case.order);
+    let n = coordinates(case.dimension, block(case.dimension, case.order));
     put_points(line, to, case, is_source, length, nodes, &mut points[..n])
 }
 

@@ -7,7 +7,8 @@ use crate::line::put_answer;
 use crate::line::put_byte;
 use crate::line::put_number;
 use crate::line::put_short;
-ghost use Prim.Native.Nat.{_≤_};
+use crate::size::entries;
+use crate::size::rows_if;
 
 // Kind 1: the nodes of an order.
 pub fn replay_nodes(line: &mut [u8; 2048], order: usize) -> usize {
@@ -40,18 +41,6 @@ fn read_points(line: &mut [u8; 2048], case: Case, points: &mut [f64]) -> usize {
     let after_rows = put_number(line, after_order, case.rows as u64);
     let to = put_byte(line, after_rows, b':');
     evaluate(line, to, case, points)
-}
-
-// How many entries the polynomials of an order have at some points.
-fn entries(order: usize, rows: usize) -> usize
-    ensures { λ r. ⌜ r ≤ 65536 ⌝ }
-{
-    up_to(16, order) * up_to(4096, rows)
-}
-
-// The rows of a matrix that is left out where it is not wanted.
-fn rows_if(is_wanted: bool, rows: usize) -> usize {
-    if is_wanted { rows } else { 0 }
 }
 
 fn evaluate(line: &mut [u8; 2048], to: usize, case: Case, points: &[f64]) -> usize {

@@ -5,8 +5,9 @@
 
 use super::{
     apply_cheb_tensor_transfer, evaluate_chebyshev_polynomials, generate_chebyshev_nodes,
-    generate_chebyshev_source_points, generate_chebyshev_target_points, get_m2l_vectors,
-    get_m2m_transfer_operators, get_permutation_lookups,
+    generate_chebyshev_source_points, generate_chebyshev_target_points,
+    get_approximation_coefficients, get_m2l_vectors, get_m2m_transfer_operators,
+    get_permutation_lookups,
 };
 use faer::{Mat, MatRef};
 
@@ -131,4 +132,51 @@ pub fn source_points(dimension: usize, length: f64, reference: usize, nodes: &[f
         &dimension,
         &length,
     ))
+}
+
+/// A cell, the polynomials at its nodes, and points whose coefficients are asked for.
+pub struct Cell {
+    pub dimension: usize,
+    pub order: usize,
+    pub with_gradients: bool,
+    pub length: f64,
+    pub centre: Vec<f64>,
+    /// One row a node, column after column.
+    pub node_polynomials: Vec<f64>,
+    /// One row a point, column after column.
+    pub points: Vec<f64>,
+}
+
+impl Cell {
+    /// How many points there are.
+    pub fn rows(&self) -> usize {
+        self.points.len() / self.dimension
+    }
+}
+
+/// What the text answers for a cell, each matrix column after column.
+pub struct Coefficients {
+    /// The points as the text leaves them, scaled.
+    pub points: Vec<f64>,
+    pub values: Vec<f64>,
+    pub gradients: Option<Vec<f64>>,
+}
+
+/// Asks the text for the coefficients of a cell's points.
+pub fn coefficients(cell: &Cell) -> Coefficients {
+    let mut points = matrix(&cell.points, cell.rows(), cell.dimension);
+    let answer = get_approximation_coefficients(
+        cell.order,
+        &mut points,
+        &cell.centre,
+        &cell.length,
+        &matrix(&cell.node_polynomials, cell.order, cell.order),
+        &cell.dimension,
+        cell.with_gradients,
+    );
+    Coefficients {
+        points: entries(&points),
+        values: entries(&answer.values),
+        gradients: answer.gradients.as_ref().map(entries),
+    }
 }

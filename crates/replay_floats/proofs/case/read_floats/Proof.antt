@@ -1,4 +1,4 @@
--- `replay_floats::case::read_floats` is safe and ends: the floats of a list of up to 8,192 stand in 65,536 bytes.
+-- `replay_floats::case::read_floats` is safe and ends: the floats of a list of up to 12,288 stand in 98,304 bytes.
 -- Assumes nothing.
 use mathlib.Core.Path.{sym}
 use lib.Seq.{length-take-le}

@@ -18,6 +18,9 @@ same-length c = search needs
 returns : tie.Need-returns
 returns c = search needs
 
+block-requires : tie.Need-block-requires
+block-requires c κs = search needs
+
 coordinates-requires : tie.Need-coordinates-requires
 coordinates-requires c κs = search needs
 
@@ -44,6 +47,7 @@ read-block-spec =
     put-short-requires
     same-length
     returns
+    block-requires
     coordinates-requires
     array-borrow-prefix-points
     slice-aggregate-put-points

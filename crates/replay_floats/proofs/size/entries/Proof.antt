@@ -1,10 +1,10 @@
--- `replay_floats::polynomials::entries` meets its contract: a product of an order up to 16 and up to 4,096 rows.
+-- `replay_floats::size::entries` meets its contract: a product of an order up to 16 and up to 4,096 rows.
 -- Assumes nothing.
 use native.Mathlib.Nat.{mul-le-mul}
 use native.Mathlib.Omega.{arith}
 use borrow.Author.Needs.{needs}
-use Rattle.replay_floats.proofs.polynomials.entries.Statement.{statement}
-use Rattle.replay_floats.proofs.polynomials.entries.Tie as tie
+use Rattle.replay_floats.proofs.size.entries.Statement.{statement}
+use Rattle.replay_floats.proofs.size.entries.Tie as tie
 
 up-to-requires : tie.Need-up-to-requires
 up-to-requires c κs = search needs

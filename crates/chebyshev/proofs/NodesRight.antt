@@ -1,19 +1,21 @@
 -- The rule of the nodes at every entry of the table, by one test that antt computes. Assumes nothing.
-use mathlib.Core.Path.{_≡_, refl, sym}
+use mathlib.Core.Path.{_≡_, refl, sym, _∙_}
 use mathlib.Core.Bool.{Bool, true, false, cond, _&&_, and-eq-true-iff}
-use mathlib.Core.List.{List, [], _∷_, map}
-use Prim.Native.Nat.{ℕ, zero, suc, _+_, _-_, _*_, _<_, _≤_}
-use native.Mathlib.Nat.{le-of-suc-le-suc, not-suc-le-zero}
+use mathlib.Core.List.{List}
+use Prim.Native.Nat.{ℕ, zero, suc, _<_, _≤_}
+use native.Mathlib.Nat.{not-suc-le-zero}
 use native.Mathlib.Omega.{arith}
-use lib.Dec.{T, leb, ltb}
+use lib.Dec.{T, ltb}
 use lib.IntN.{ℤ, _+ℤ_, _-ℤ_}
 use lib.Signed.{ltZ, ltZ-yes}
-use lib.Ieee.{Float, ofBits, binary64}
+use lib.Ieee.{Float, nan, ofBits}
 use lib.ListN.{length, getD}
-use borrow.Author.Tests.{leb-true, lt-ltb}
+use borrow.Author.Tests.{lt-ltb}
+use Rattle.common.specs.Lists.{tabulate, stretch}
 use Rattle.common.specs.Tests.{each}
+use Rattle.common.proofs.Fill.{getD-tabulate, tabulate-cong, fill-all}
 use Rattle.common.proofs.Tests.{each-at}
-use Rattle.chebyshev.specs.Nodes.{bits, entry, node, start}
+use Rattle.chebyshev.specs.Nodes.{entry, node}
 use Rattle.chebyshev.specs.Rule.{gap, margin, scaled, whole, chebyshev, opposite, place, Node}
 
 -- THE TEST of one node: it is exact, the next is more than 1/64 above it, and T_p crosses zero there
@@ -56,19 +58,8 @@ nodes-right (suc q) i l u h =
       crosses = passed _ (two .1);
     }
 
--- THE TABLE'S PLACES
-
--- the entries of an order lie in the table
-pub start-fits : (p : ℕ) → p ≤ 16 → start p + p ≤ 136
-unfolding each
-start-fits p h = leb-true _ _ (each-at 17 (λ q. leb (start q + q) 136) refl p (omega arith))
-
-pub twice-fits : (p : ℕ) → p ≤ 16 → p * (p - 1) ≤ 240
-unfolding each
-twice-fits p h = leb-true _ _ (each-at 17 (λ q. leb (q * (q - 1)) 240) refl p (omega arith))
-
--- the value of an entry is that of its bits
-pub at-bits : (l : List ℕ) (k : ℕ) (d : Float) → k < length l → getD (map (ofBits binary64) l) k d ≡ ofBits binary64 (getD l k 0)
-at-bits [] k d h = absurd (not-suc-le-zero h)
-at-bits (x ∷ l) zero d h = refl
-at-bits (x ∷ l) (suc k) d h = at-bits l k d (le-of-suc-le-suc h)
+-- A ROW of the constant table: a call has copied it, and it holds the nodes of its order
+pub row-right : (p k : ℕ) (nodes after : List Float) → p ≡ k → length nodes ≡ p → after ≡ stretch 0 k (λ i. getD (tabulate k (node k)) i nan) nodes →
+    after ≡ tabulate p (node p)
+row-right p k nodes after e long made =
+    rw e (made ∙ fill-all k _ nodes (long ∙ e) ∙ tabulate-cong k _ (node k) (λ i h. getD-tabulate k (node k) i nan h))

@@ -2,8 +2,8 @@
 use mathlib.Core.Path.{_≡_, refl, sym, ap, _∙_}
 use mathlib.Core.Bool.{Bool, true, false, cond}
 use mathlib.Core.List.{List}
-use Prim.Native.Nat.{ℕ, _+_, _-_, _*_, _/_, _%_, _^_, _<_, _≤_}
-use native.Mathlib.Nat.{zero-add, add-mul, mul-assoc, mul-le-mul, pow-le-pow-right, add-assoc, mod-lt, div-lt-iff-lt-mul}
+use Prim.Native.Nat.{ℕ, zero, suc, _+_, _-_, _*_, _/_, _%_, _^_, _<_, _≤_}
+use native.Mathlib.Nat.{zero-add, add-mul, mul-assoc, mul-le-mul, pow-suc, pow-le-pow-right, add-assoc, mod-lt, div-lt-iff-lt-mul}
 use native.Mathlib.Omega.{arith}
 use lib.Arith.{digits-div, digits-mod, digits-lt}
 use lib.Ieee.{Float, nan}
@@ -12,7 +12,7 @@ use lib.Seq.{getD-take}
 use borrow.Rule.Slice.PartMut.{putMid}
 use Rattle.common.specs.Digits.{digit}
 use Rattle.common.specs.Floats.{times, sums}
-use Rattle.common.specs.Lists.{stretch}
+use Rattle.common.specs.Lists.{tabulate, stretch}
 use Rattle.common.specs.Matrices.{cell, columnMajor}
 use Rattle.common.specs.Refusals.{sizeIf}
 use Rattle.common.proofs.Digits.{digit-below}
@@ -100,6 +100,32 @@ module _ (t : ℕ → Float → Float) (p P : ℕ) (points : List Float) where
       let some = some-rows p P j b in
       let node : j / P < p = div-lt-iff-lt-mul some .1 b in
       sym (cell-block P onAxes p axis j b ∙ rw (digits-mod axis node, digits-div axis node, part-read from _ P points (j % P) nan refl (mod-lt j some), e))
+
+-- A COLUMN that a call was lent, and has filled
+
+pub column-lent : (P columns : ℕ) (f : ℕ → ℕ → Float) (before now filled : List Float) (n at : ℕ) (g : ℕ → Float) → length before ≡ columns * P →
+    Stepping 0 columns P (cell P f) before now n at → n < columns → filled ≡ tabulate P g → ((i : ℕ) → i < P → g i ≡ f i n) →
+    Stepping 0 columns P (cell P f) before (putMid at (at + P - at) now filled) (n + 1) (at + P)
+column-lent P columns f before now filled n at g long h l e same =
+    let fits = stepping-fits 0 columns P (cell P f) before now n at h l in
+    stepping-more 0 columns P (cell P f) before now _ n at g h l (omega arith) (λ i b. same i b ∙ sym (cell-at P f i n b))
+    (stretch-part at g now P filled (omega (arith, h .long)) e)
+
+-- the columns of a lead
+pub lead-lent : (p P : ℕ) (f : ℕ → ℕ → Float) (before now filled : List Float) (leads lead at : ℕ) → length before ≡ leads * (p * P) →
+    Stepping 0 leads (p * P) (cell P f) before now lead at → lead < leads → filled ≡ columnMajor P p (λ i n. f i (lead * p + n)) →
+    Stepping 0 leads (p * P) (cell P f) before (putMid at (at + p * P - at) now filled) (lead + 1) (at + p * P)
+unfolding columnMajor
+lead-lent p P f before now filled leads lead at long h l e =
+    let fits = stepping-fits 0 leads (p * P) (cell P f) before now lead at h l in
+    let column : ℕ → Float = cell P (λ i n. f i (lead * p + n)) in
+    stepping-more 0 leads (p * P) (cell P f) before now _ lead at column h l (omega arith)
+    (λ j b. sym (cell-block P f p lead j b)) (stretch-part at column now (p * P) filled (omega (arith, h .long)) e)
+
+-- a lead for each node of one dimension less
+pub leads-nodes : (D p P : ℕ) → 1 ≤ D → p ^ (D - 1) * (p * P) ≡ p ^ D * P
+leads-nodes zero p P h = absurd (omega arith)
+leads-nodes (suc m) p P h = let less : suc m - 1 ≡ m = omega arith in rw (less, pow-suc p m) (sym (mul-assoc (p ^ m) p P))
 
 -- THE GRADIENT'S BLOCK of an axis
 

@@ -2,7 +2,7 @@
 use mathlib.Core.Path.{_≡_}
 use mathlib.Core.Bool.{Bool, cond}
 use mathlib.Core.List.{List}
-use Prim.Native.Nat.{ℕ, _+_, _*_, _/_, _%_, _^_, _≤_}
+use Prim.Native.Nat.{ℕ, _+_, _*_, _/_, _%_, _^_, _<_, _≤_}
 use lib.Dec.{eqb}
 use lib.Ieee.{Float, nan}
 use lib.ListN.{getD}
@@ -29,6 +29,17 @@ thirdAxis g = cond (eqb g 2) 1 2
 -- where the factors' column of an axis begins, for the node with number k
 abbrev pub placeOf : (D p P k a : ℕ) → ℕ
 placeOf D p P k a = (a * p + digit p D a k) * P
+
+-- how far the column of an axis moves from a node to the next, while the last axis moves alone
+abbrev pub stepOf : (D P a : ℕ) → ℕ
+stepOf D P a = cond (eqb (a + 1) D) P 0
+
+-- row i of column n of a list in which columns begin at `from` and then each `step` on; and p such columns of P rows fit a length
+abbrev pub strided : (list : List Float) → (from step i n : ℕ) → Float
+strided list from step i n = getD list (from + n * step + i) nan
+
+abbrev pub Within : (p P from step length : ℕ) → Type 0
+Within p P from step length = (step ≤ P) × ((n : ℕ) → n < p → from + n * step + P ≤ length)
 
 -- row i of the column of node k, whose product starts with axis g: read from the starts, a column a node, and from the factors
 abbrev pub productOf : (D p P g : ℕ) → (starts factors : List Float) → (i k : ℕ) → Float

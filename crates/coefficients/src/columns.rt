@@ -1,7 +1,7 @@
 // The columns of the result, each a product of one column an axis, written straight into its own stretch.
 ghost use mathlib.Core.Path.{_≡_};
 ghost use mathlib.Core.Bool.{cond};
-ghost use Prim.Native.Nat.{_+_, _*_, _^_, _/_, _%_, _<_, _≤_};
+ghost use Prim.Native.Nat.{_+_, _*_, _^_, _<_, _≤_};
 ghost use lib.Ieee.{nan};
 ghost use lib.ListN.{getD, length as size};
 ghost use Rattle.common.specs.Digits.{digit};
@@ -9,7 +9,7 @@ ghost use Rattle.common.specs.Floats.{times};
 ghost use Rattle.common.specs.Lists.{tabulate};
 ghost use Rattle.common.specs.Matrices.{columnMajor};
 ghost use Rattle.common.specs.Refusals.{Shape, sizeIf};
-ghost use Rattle.coefficients.specs.Working.{secondAxis, thirdAxis, placeOf, productOf, gradientOf};
+ghost use Rattle.coefficients.specs.Working.{secondAxis, thirdAxis, placeOf, stepOf, strided, Within, productOf, gradientOf};
 
 // A node's index on an axis.
 fn index_on(dimension: usize, order: usize, axis: usize, node: usize) -> usize
@@ -69,41 +69,126 @@ fn multiply_three(rows: usize, start: &[f64], second: &[f64], third: &[f64], col
     }
 }
 
-// The column of one node: the product starts with an axis, and the others follow in order.
-fn fill_column(
+// Where the columns of an axis begin that go with a lead's nodes, one after the other.
+struct Stride {
+    from: usize,
+    step: usize,
+}
+
+// On the last axis each node has the next column, and on the others the column stays.
+fn stride_of(dimension: usize, rows: usize, axis: usize, from: usize) -> Stride
+    requires { ⌜ axis < dimension ⌝ }
+    ensures { λ r. ⌜ (r .from ≡ from) × (r .step ≡ stepOf dimension rows axis) ⌝ }
+{
+    if axis + 1 == dimension {
+        Stride { from, step: rows }
+    } else {
+        Stride { from, step: 0 }
+    }
+}
+
+// The columns of a lead's nodes, from two axes.
+fn fill_two(
+    order: usize,
+    rows: usize,
+    start: Stride,
+    second: Stride,
+    starts: &[f64],
+    factors: &[f64],
+    out: &mut [f64],
+)
+    requires { ⌜ Within order rows (start .from) (start .step) (size (now starts)) × Within order rows (second .from) (second .step) (size (now factors)) × (size (now out) ≡ order * rows) ⌝ }
+    ensures { λ _. ⌜ now (out .exit) ≡ columnMajor rows order (λ i n. times (strided (now (starts .entry)) (start .from) (start .step) i n) (strided (now (factors .entry)) (second .from) (second .step) i n)) ⌝ }
+{
+    let mut a = start.from;
+    let mut b = second.from;
+    let mut at = 0;
+    let mut n = 0;
+    while n < order {
+        let a_end = a + rows;
+        let b_end = b + rows;
+        let end = at + rows;
+        multiply_two(
+            rows,
+            &starts[a..a_end],
+            &factors[b..b_end],
+            &mut out[at..end],
+        );
+        a += start.step;
+        b += second.step;
+        at = end;
+        n += 1;
+    }
+}
+
+// The same from three: the column of the second is one for all of them.
+fn fill_three(
+    order: usize,
+    rows: usize,
+    start: Stride,
+    second: &[f64],
+    third: Stride,
+    starts: &[f64],
+    factors: &[f64],
+    out: &mut [f64],
+)
+    requires { ⌜ Within order rows (start .from) (start .step) (size (now starts)) × (size (now second) ≡ rows) × Within order rows (third .from) (third .step) (size (now factors)) × (size (now out) ≡ order * rows) ⌝ }
+    ensures { λ _. ⌜ now (out .exit) ≡ columnMajor rows order (λ i n. times (times (strided (now (starts .entry)) (start .from) (start .step) i n) (getD (now (second .entry)) i nan)) (strided (now (factors .entry)) (third .from) (third .step) i n)) ⌝ }
+{
+    let mut a = start.from;
+    let mut c = third.from;
+    let mut at = 0;
+    let mut n = 0;
+    while n < order {
+        let a_end = a + rows;
+        let c_end = c + rows;
+        let end = at + rows;
+        let x = &starts[a..a_end];
+        multiply_three(rows, x, second, &factors[c..c_end], &mut out[at..end]);
+        a += start.step;
+        c += third.step;
+        at = end;
+        n += 1;
+    }
+}
+
+// The columns of the nodes that differ on the last axis only: those of one lead, which counts the other axes' indices.
+fn fill_lead(
     dimension: usize,
     order: usize,
     rows: usize,
     axis: usize,
-    node: usize,
+    lead: usize,
     starts: &[f64],
     factors: &[f64],
-    column: &mut [f64],
+    out: &mut [f64],
 )
-    requires { ⌜ Shape dimension order × (rows ≤ 4096) × (axis < dimension) × (size (now starts) ≡ order * rows) × (size (now factors) ≡ dimension * order * rows) × (size (now column) ≡ rows) ⌝ }
-    ensures { λ _. ⌜ now (column .exit) ≡ tabulate rows (λ i. productOf dimension order rows axis (now (starts .entry)) (now (factors .entry)) i node) ⌝ }
+    requires { ⌜ Shape dimension order × (2 ≤ dimension) × (rows ≤ 4096) × (axis < dimension) × (lead ≤ 4096) × (size (now starts) ≡ order * rows) × (size (now factors) ≡ dimension * order * rows) × (size (now out) ≡ order * rows) ⌝ }
+    ensures { λ _. ⌜ now (out .exit) ≡ columnMajor rows order (λ i n. productOf dimension order rows axis (now (starts .entry)) (now (factors .entry)) i (lead * order + n)) ⌝ }
 {
-    let from = index_on(dimension, order, axis, node) * rows;
-    let to = from + rows;
-    let start = &starts[from..to];
-    if dimension == 1 {
-        common::copy_column(rows, start, 0, column);
-        return;
-    }
-    let second = place_of(dimension, order, rows, second_axis(axis), node);
-    let second_end = second + rows;
+    let first = lead * order;
+    let from = index_on(dimension, order, axis, first) * rows;
+    let start = stride_of(dimension, rows, axis, from);
+    let other = second_axis(axis);
+    let place = place_of(dimension, order, rows, other, first);
     if dimension == 2 {
-        multiply_two(rows, start, &factors[second..second_end], column);
+        let second = stride_of(dimension, rows, other, place);
+        fill_two(order, rows, start, second, starts, factors, out);
         return;
     }
-    let third = place_of(dimension, order, rows, third_axis(axis), node);
-    let third_end = third + rows;
-    multiply_three(
+    let end = place + rows;
+    let last = third_axis(axis);
+    let last_place = place_of(dimension, order, rows, last, first);
+    let third = stride_of(dimension, rows, last, last_place);
+    fill_three(
+        order,
         rows,
         start,
-        &factors[second..second_end],
-        &factors[third..third_end],
-        column,
+        &factors[place..end],
+        third,
+        starts,
+        factors,
+        out,
     );
 }
 
@@ -120,23 +205,28 @@ fn fill_columns(
     requires { ⌜ Shape dimension order × (rows ≤ 4096) × (axis < dimension) × (size (now starts) ≡ order * rows) × (size (now factors) ≡ dimension * order * rows) × (size (now out) ≡ order ^ dimension * rows) ⌝ }
     ensures { λ _. ⌜ now (out .exit) ≡ columnMajor rows (order ^ dimension) (productOf dimension order rows axis (now (starts .entry)) (now (factors .entry))) ⌝ }
 {
-    let nodes = common::power(order, dimension);
-    let mut node = 0;
+    let side = order * rows;
+    if dimension == 1 {
+        common::copy_column(side, starts, 0, out);
+        return;
+    }
+    let leads = common::power(order, dimension - 1);
+    let mut lead = 0;
     let mut at = 0;
-    while node < nodes {
-        let end = at + rows;
-        fill_column(
+    while lead < leads {
+        let end = at + side;
+        fill_lead(
             dimension,
             order,
             rows,
             axis,
-            node,
+            lead,
             starts,
             factors,
             &mut out[at..end],
         );
         at = end;
-        node += 1;
+        lead += 1;
     }
 }
 

@@ -9,9 +9,9 @@ use lib.Ieee.{Float, nan}
 use lib.ListN.{length, getD}
 use Rattle.common.specs.Lists.{stretch}
 use Rattle.common.specs.Floats.{zero₆₄, one₆₄}
-use Rattle.common.specs.Matrices.{cell, columnMajor}
-use Rattle.common.proofs.Fill.{fill-on, fill-read, fill-all}
-use Rattle.common.proofs.Matrices.{next-column, cell-at, column-entry}
+use Rattle.common.specs.Matrices.{cell}
+use Rattle.common.proofs.Fill.{fill-on, fill-read}
+use Rattle.common.proofs.Matrices.{next-column, cell-at, column-entry, columns-filled}
 use Rattle.chebyshev.specs.Polynomials.{T, T′, atPoints}
 use Rattle.chebyshev.specs.Working.{nextT, nextT′, columnT, columnT′}
 
@@ -120,5 +120,4 @@ module _ (rows : ℕ) (x : List Float) where
   -- all columns are filled
   pub columns-all : (f : ℕ → Float → Float) (order at : ℕ) (l : List Float) → length l ≡ order * rows → at ≡ order * rows →
       stretch 0 at (cell rows (λ i j. f j (getD x i nan))) l ≡ atPoints f order rows x
-  unfolding columnMajor
-  columns-all f order at l h e = rw e (fill-all (order * rows) (cell rows (λ i j. f j (getD x i nan))) l h)
+  columns-all f order at l h e = rw e (columns-filled rows (λ i j. f j (getD x i nan)) order l h)

@@ -10,11 +10,11 @@ use lib.ListN.{length, getD}
 use lib.Pow.{pow-add}
 use Rattle.common.specs.Digits.{digit}
 use Rattle.common.specs.Lists.{stretch}
-use Rattle.common.specs.Matrices.{cell, columnMajor}
+use Rattle.common.specs.Matrices.{cell}
 use Rattle.common.proofs.Digits.{digit-below}
-use Rattle.common.proofs.Fill.{tabulate-cong, fill-read, fill-all}
+use Rattle.common.proofs.Fill.{tabulate-cong, fill-read}
 use Rattle.common.proofs.Limits.{power-most}
-use Rattle.common.proofs.Matrices.{cell-at, some-rows}
+use Rattle.common.proofs.Matrices.{cell-at, some-rows, columns-filled}
 use Rattle.common.proofs.Steps.{Stepping, stepping-more}
 use Rattle.points.specs.Points.{pointsOf}
 use Rattle.points.specs.Working.{cycled, indexed}
@@ -69,5 +69,4 @@ module _ (D p rows : ℕ) where
 
   -- all columns are filled
   pub points-done : (f : ℕ → ℕ → Float) (l : List Float) → rows ≡ p ^ D → length l ≡ D * p ^ D → stretch 0 (D * rows) (cell rows f) l ≡ pointsOf D p f
-  unfolding columnMajor
-  points-done f l e w = rw e (fill-all (D * p ^ D) (cell (p ^ D) f) l w)
+  points-done f l e w = rw e (columns-filled (p ^ D) f D l w)

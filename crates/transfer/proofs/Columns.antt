@@ -1,5 +1,5 @@
 -- A column of the operators, summed and scaled; and all columns make the matrix. Assumes nothing.
-use mathlib.Core.Path.{_≡_, refl, sym, ap, _∙_}
+use mathlib.Core.Path.{_≡_, sym, ap, _∙_}
 use mathlib.Core.List.{List}
 use Prim.Native.Nat.{ℕ, suc, _+_, _-_, _*_, _<_, _≤_}
 use native.Mathlib.Numerals.{add-one}
@@ -10,8 +10,8 @@ use borrow.Author.Tests.{lt-ltb, le-ltb}
 use Rattle.common.specs.Floats.{plus, minus, times, over, one₆₄, two₆₄, half₆₄, float}
 use Rattle.common.specs.Lists.{stretch}
 use Rattle.common.specs.Matrices.{cell, columnMajor}
-use Rattle.common.proofs.Fill.{stretch-inside, stretch-cong, stretch-again, fill-on, fill-all}
-use Rattle.common.proofs.Matrices.{cell-at}
+use Rattle.common.proofs.Fill.{stretch-inside, stretch-cong, stretch-again, fill-on}
+use Rattle.common.proofs.Matrices.{cell-at, columns-filled}
 use Rattle.chebyshev.specs.Polynomials.{T}
 use Rattle.transfer.specs.Operators.{childNode, operator}
 use Rattle.transfer.specs.Working.{partOf}
@@ -54,5 +54,4 @@ module _ (p : ℕ) (nodes poly : List Float) where
 
   pub columns-all : (l : List Float) (at : ℕ) → length l ≡ (p + p) * p → at ≡ (p + p) * p →
       stretch 0 at (cell p (operator p nodes poly)) l ≡ columnMajor p (p + p) (operator p nodes poly)
-  unfolding columnMajor
-  columns-all l at h e = rw e (fill-all ((p + p) * p) (cell p (operator p nodes poly)) l h)
+  columns-all l at h e = rw e (columns-filled p (operator p nodes poly) (p + p) l h)

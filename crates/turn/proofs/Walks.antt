@@ -18,7 +18,7 @@ use Rattle.turn.specs.Working.{stepOf, stepsOf, stepped, stored, Runs}
 use Rattle.turn.specs.declared.Steps.{Steps}
 use Rattle.common.proofs.Cases.{by-lt}
 use Rattle.common.proofs.Digits.{number-below}
-use Rattle.common.proofs.Limits.{power-most}
+use Rattle.common.proofs.Limits.{power-most, power-one, power-two}
 use Rattle.common.proofs.Stores.{stores-more, stores-cong, stores-add}
 use Rattle.turn.proofs.Orders.{factorial-pos, axis-below}
 use Rattle.turn.proofs.Nodes.{turned-step, turned-below, turnedIndex-below}
@@ -89,14 +89,8 @@ digit-at p D e c j l o h =
 
 -- POWERS AND MULTIPLES
 
-power-one : (p : ℕ) → p ^ 1 ≡ p
-power-one p = pow-suc p 0 ∙ rw (pow-zero, one-mul)
-
-square : (p : ℕ) → p ^ 2 ≡ p * p
-square p = pow-suc p 1 ∙ rw (power-one p)
-
 cube : (p : ℕ) → p ^ 3 ≡ p * (p * p)
-cube p = pow-suc p 2 ∙ rw (square p) (mul-assoc p p p)
+cube p = pow-suc p 2 ∙ rw (power-two p) (mul-assoc p p p)
 
 next-multiple : (x p : ℕ) → (x + 1) * p ≡ x * p + p
 next-multiple x p = rw (add-mul, one-mul)
@@ -198,7 +192,7 @@ module _ (D p k : ℕ) (ok : Shape D p) where
     pub at-plane : row + 1 ≡ p → At D p k (node + p) 0 ((plane + stepOf D p k 2) % 2 ^ 64) ((plane + stepOf D p k 2) % 2 ^ 64)
     at-plane h =
         let c = at .planes in
-        let first : (0 * p + c) * p ^ 2 ≡ c * p * p = rw (zero-mul, square p) (ap (λ (x : ℕ). x * (p * p)) (omega arith) ∙ sym (mul-assoc c p p)) in
+        let first : (0 * p + c) * p ^ 2 ≡ c * p * p = rw (zero-mul, power-two p) (ap (λ (x : ℕ). x * (p * p)) (omega arith) ∙ sym (mul-assoc c p p)) in
         let whole : (c + 1) * p * p ≡ c * p * p + p * p = rw (next-multiple, add-mul) in
         let full : c * p + row + 1 ≡ c * p + p = omega arith in
         let next : c * p * p + p * p ≡ node + p =
@@ -206,8 +200,8 @@ module _ (D p k : ℕ) (ok : Shape D p) where
         let step : node + p < p ^ D → (plane + stepOf D p k 2) % 2 ^ 64 ≡ turned D p k (node + p) =
         λ b'. let most : p ^ D ≤ p * (p * p) = rw cube at (pow-le-pow-right (ok .order-least) (ok .dimension-most)) in
         let less : (c + 1) * (p * p) < p * (p * p) = rw (← mul-assoc (c + 1) p p, whole) (omega arith) in
-        rw (at .plane-image b, ← next) (rw (first, square p) at
-        (step-at 2 0 c (axis-left 2 (c * p * p) (rw (square p, next) b')) (lt-of-mul-lt-mul-right (p * p) less) (rw first (omega arith)))) in
+        rw (at .plane-image b, ← next) (rw (first, power-two p) at
+        (step-at 2 0 c (axis-left 2 (c * p * p) (rw (power-two p, next) b')) (lt-of-mul-lt-mul-right (p * p) less) (rw first (omega arith)))) in
         record {
           planes = c + 1;
           here = sym next ∙ sym whole ∙ ap (λ (x : ℕ). x * p) (sym (add-zero ((c + 1) * p)));

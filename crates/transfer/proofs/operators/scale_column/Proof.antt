@@ -1,11 +1,11 @@
 -- `transfer::operators::scale_column` meets its contract. The loop keeps `Filling`: i rows are scaled. Assumes nothing.
 use borrow.Author.Needs.{needs}
-use mathlib.Core.Path.{_≡_, refl}
+use mathlib.Core.Path.{refl}
 use Prim.Native.Nat.{_+_, _-_}
 use lib.Ieee.{nan}
 use lib.ListN.{getD}
 use Rattle.common.specs.Floats.{minus, times}
-use Rattle.common.proofs.Fill.{Filling, filling-none, filling-more, filling-here, filling-done}
+use Rattle.common.proofs.Fill.{Filling, filling-none, changing-more, filling-done}
 use Rattle.transfer.proofs.operators.scale_column.Statement.{statement}
 use Rattle.transfer.proofs.operators.scale_column.Tie as tie
 
@@ -49,11 +49,8 @@ loop-again c =
     let t = c .before in
     let s = t .before .before in
     let a = s .args in
-    let l = t .before .loop in
-    let here : getD (l .operators) (a .at + l .i) nan ≡ getD (a .operators .now) (a .at + l .i) nan = filling-here (a .at)
-    (a .rows) (λ j. minus (times (getD (a .operators .now) (a .at + j) nan) (a .factor)) (a .offset)) _ _ _ nan (l .inv) (s .pre) in
-    filling-more (a .at) (a .rows) (λ j. minus (times (getD (a .operators .now) (a .at + j) nan) (a .factor)) (a .offset)) _ _ _ _ nan _
-    (l .inv) (t .loop-test .taken) (s .pre) refl (rw here)
+    changing-more (a .at) (a .rows) (λ j. minus (times (getD (a .operators .now) (a .at + j) nan) (a .factor)) (a .offset)) _
+    (λ x. minus (times x (a .factor)) (a .offset)) _ _ _ nan _ (t .before .loop .inv) (t .loop-test .taken) (s .pre) refl refl refl
 
 same-length : tie.Need-same-length Inv-loop μ-loop
 same-length c = c .before .loop .inv .long

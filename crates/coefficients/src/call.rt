@@ -3,6 +3,7 @@ ghost use mathlib.Core.Path.{_≡_};
 ghost use lib.ListN.{length as size};
 ghost use Rattle.coefficients.specs.Coefficients.{after, coefficientsCall};
 ghost use Rattle.coefficients.specs.Working.{Ready};
+use crate::cell::Cell;
 use crate::columns::fill_gradients;
 use crate::columns::fill_values;
 use crate::coordinates::scale_points;
@@ -12,10 +13,7 @@ use crate::limits::Lengths;
 use crate::limits::coefficients_number;
 
 fn fill_coefficients(
-    dimension: usize,
-    order: usize,
-    rows: usize,
-    length: f64,
+    cell: Cell,
     with_gradients: bool,
     centre: &[f64],
     node_polynomials: &[f64],
@@ -25,15 +23,15 @@ fn fill_coefficients(
     factors: &mut [f64],
     slopes: &mut [f64],
 )
-    requires { ⌜ Ready dimension order rows «with_gradients» (size (now points)) (size (now centre)) (size (now «node_polynomials»)) (size (now values)) (size (now gradients)) (size (now factors)) (size (now slopes)) ⌝ }
-    ensures { λ _. ⌜ (now (points .exit), now (values .exit), now (gradients .exit), now (factors .exit), now (slopes .exit)) ≡ after dimension order rows length «with_gradients» (now (centre .entry)) (now («node_polynomials» .entry)) (now (points .entry)) ⌝ }
+    requires { ⌜ Ready (cell .dimension) (cell .order) (cell .rows) «with_gradients» (size (now points)) (size (now centre)) (size (now «node_polynomials»)) (size (now values)) (size (now gradients)) (size (now factors)) (size (now slopes)) ⌝ }
+    ensures { λ _. ⌜ (now (points .exit), now (values .exit), now (gradients .exit), now (factors .exit), now (slopes .exit)) ≡ after (cell .dimension) (cell .order) (cell .rows) (cell .length) «with_gradients» (now (centre .entry)) (now («node_polynomials» .entry)) (now (points .entry)) ⌝ }
 {
-    scale_points(dimension, rows, length, centre, points);
+    let dimension = cell.dimension;
+    let order = cell.order;
+    let rows = cell.rows;
+    scale_points(dimension, rows, cell.length, centre, points);
     fill_axes(
-        dimension,
-        order,
-        rows,
-        length,
+        cell,
         with_gradients,
         points,
         node_polynomials,
@@ -42,15 +40,7 @@ fn fill_coefficients(
         factors,
         slopes,
     );
-    fill_gradients(
-        dimension,
-        order,
-        rows,
-        with_gradients,
-        slopes,
-        factors,
-        gradients,
-    );
+    fill_gradients(cell, with_gradients, slopes, factors, gradients);
     start_values(order * rows, factors);
     fill_values(dimension, order, rows, factors, values);
 }
@@ -58,10 +48,7 @@ fn fill_coefficients(
 // What each node of a cell counts for at each of the points, which become reference coordinates in place: one row a point, one column
 // a node, the last axis fastest; and, if wanted, the slopes of that along each axis, axis after axis. The last two buffers are room to work in.
 pub fn get_approximation_coefficients(
-    dimension: usize,
-    order: usize,
-    rows: usize,
-    length: f64,
+    cell: Cell,
     with_gradients: bool,
     centre: &[f64],
     node_polynomials: &[f64],
@@ -71,7 +58,7 @@ pub fn get_approximation_coefficients(
     factors: &mut [f64],
     slopes: &mut [f64],
 ) -> u8
-    ensures { λ r. ⌜ (r, (now (points .exit), now (values .exit), now (gradients .exit), now (factors .exit), now (slopes .exit))) ≡ coefficientsCall dimension order rows length «with_gradients» (now (centre .entry)) (now («node_polynomials» .entry)) (now (points .entry), now (values .entry), now (gradients .entry), now (factors .entry), now (slopes .entry)) ⌝ }
+    ensures { λ r. ⌜ (r, (now (points .exit), now (values .exit), now (gradients .exit), now (factors .exit), now (slopes .exit))) ≡ coefficientsCall (cell .dimension) (cell .order) (cell .rows) (cell .length) «with_gradients» (now (centre .entry)) (now («node_polynomials» .entry)) (now (points .entry), now (values .entry), now (gradients .entry), now (factors .entry), now (slopes .entry)) ⌝ }
 {
     let lent = Lengths {
         points: points.len(),
@@ -82,24 +69,12 @@ pub fn get_approximation_coefficients(
         factors: factors.len(),
         slopes: slopes.len(),
     };
-    let refused = coefficients_number(
-        dimension,
-        order,
-        rows,
-        length,
-        with_gradients,
-        centre,
-        points,
-        lent,
-    );
+    let refused = coefficients_number(cell, with_gradients, centre, points, lent);
     if refused != 0 {
         return refused;
     }
     fill_coefficients(
-        dimension,
-        order,
-        rows,
-        length,
+        cell,
         with_gradients,
         centre,
         node_polynomials,

@@ -10,6 +10,7 @@ ghost use Rattle.common.specs.Lists.{tabulate};
 ghost use Rattle.common.specs.Matrices.{columnMajor};
 ghost use Rattle.common.specs.Refusals.{Shape, sizeIf};
 ghost use Rattle.coefficients.specs.Working.{secondAxis, thirdAxis, placeOf, stepOf, strided, Within, productOf, gradientOf};
+use crate::cell::Cell;
 
 // A node's index on an axis.
 fn index_on(dimension: usize, order: usize, axis: usize, node: usize) -> usize
@@ -291,18 +292,18 @@ fn fill_axes_columns(
 
 // The gradient's columns, if they are wanted.
 pub(crate) fn fill_gradients(
-    dimension: usize,
-    order: usize,
-    rows: usize,
+    cell: Cell,
     with_gradients: bool,
     slopes: &[f64],
     factors: &[f64],
     gradients: &mut [f64],
 )
-    requires { ⌜ Shape dimension order × (rows ≤ 4096) × (size (now slopes) ≡ sizeIf «with_gradients» (dimension * order * rows)) × (size (now factors) ≡ dimension * order * rows) × (size (now gradients) ≡ sizeIf «with_gradients» (dimension * order ^ dimension * rows)) ⌝ }
-    ensures { λ _. ⌜ now (gradients .exit) ≡ cond «with_gradients» (columnMajor rows (dimension * order ^ dimension) (gradientOf dimension order rows (now (slopes .entry)) (now (factors .entry)))) (now (gradients .entry)) ⌝ }
+    requires { ⌜ Shape (cell .dimension) (cell .order) × (cell .rows ≤ 4096) × (size (now slopes) ≡ sizeIf «with_gradients» (cell .dimension * cell .order * cell .rows)) × (size (now factors) ≡ cell .dimension * cell .order * cell .rows) × (size (now gradients) ≡ sizeIf «with_gradients» (cell .dimension * cell .order ^ cell .dimension * cell .rows)) ⌝ }
+    ensures { λ _. ⌜ now (gradients .exit) ≡ cond «with_gradients» (columnMajor (cell .rows) (cell .dimension * cell .order ^ cell .dimension) (gradientOf (cell .dimension) (cell .order) (cell .rows) (now (slopes .entry)) (now (factors .entry)))) (now (gradients .entry)) ⌝ }
 {
+    let dimension = cell.dimension;
+    let order = cell.order;
     if with_gradients {
-        fill_axes_columns(dimension, order, rows, slopes, factors, gradients);
+        fill_axes_columns(dimension, order, cell.rows, slopes, factors, gradients);
     }
 }

@@ -6,10 +6,11 @@ ghost use lib.Ieee.{nan};
 ghost use lib.ListN.{getD, length as size};
 ghost use Rattle.common.specs.Floats.{times, one₆₄};
 ghost use Rattle.common.specs.Lists.{stretch};
-ghost use Rattle.common.specs.Matrices.{cell, columnMajor};
+ghost use Rattle.common.specs.Matrices.{columnMajor, cell as laid};
 ghost use Rattle.common.specs.Refusals.{Shape, sizeIf};
 ghost use Rattle.coefficients.specs.Coefficients.{factorOf, slopeOf, S, S′};
 ghost use Rattle.coefficients.specs.Working.{sumOf};
+use crate::cell::Cell;
 
 // The sums of one node's column, at place `at`: term k is polynomial k at each point times that at the node.
 fn sum_column(
@@ -46,7 +47,7 @@ fn sum_columns(
     out: &mut [f64],
 )
     requires { ⌜ (size (now polynomials) ≡ order * rows) × (size (now «node_polynomials») ≡ order * order) × (at + order * rows ≤ size (now out)) ⌝ }
-    ensures { λ _. ⌜ now (out .exit) ≡ stretch at (order * rows) (cell rows (sumOf order rows (now (polynomials .entry)) (now («node_polynomials» .entry)))) (now (out .entry)) ⌝ }
+    ensures { λ _. ⌜ now (out .exit) ≡ stretch at (order * rows) (laid rows (sumOf order rows (now (polynomials .entry)) (now («node_polynomials» .entry)))) (now (out .entry)) ⌝ }
 {
     let mut node = 0;
     let mut to = at;
@@ -86,9 +87,7 @@ fn finish_slopes(order: usize, length: f64, count: usize, at: usize, slopes: &mu
 
 // S of one axis, and S' if gradients are wanted. The polynomials and their derivatives on the axis stand in two buffers meanwhile.
 fn fill_axis(
-    order: usize,
-    rows: usize,
-    length: f64,
+    cell: Cell,
     with_gradients: bool,
     points: &[f64],
     node_polynomials: &[f64],
@@ -98,25 +97,24 @@ fn fill_axis(
     factors: &mut [f64],
     slopes: &mut [f64],
 )
-    requires { ⌜ (1 ≤ order) × (order ≤ 16) × (rows ≤ 4096) × (size (now points) ≡ rows) × (size (now «node_polynomials») ≡ order * order) × (size (now tn) ≡ order * rows) × (size (now dtn) ≡ sizeIf «with_gradients» (order * rows)) × (at + order * rows ≤ size (now factors)) × (sizeIf «with_gradients» (at + order * rows) ≤ size (now slopes)) ⌝ }
-    ensures { λ _. ⌜ (now (factors .exit) ≡ stretch at (order * rows) (cell rows (λ i n. S order (now («node_polynomials» .entry)) n (getD (now (points .entry)) i nan))) (now (factors .entry))) × (now (slopes .exit) ≡ cond «with_gradients» (stretch at (order * rows) (cell rows (λ i n. S′ order length (now («node_polynomials» .entry)) n (getD (now (points .entry)) i nan))) (now (slopes .entry))) (now (slopes .entry))) ⌝ }
+    requires { ⌜ (1 ≤ cell .order) × (cell .order ≤ 16) × (cell .rows ≤ 4096) × (size (now points) ≡ cell .rows) × (size (now «node_polynomials») ≡ cell .order * cell .order) × (size (now tn) ≡ cell .order * cell .rows) × (size (now dtn) ≡ sizeIf «with_gradients» (cell .order * cell .rows)) × (at + cell .order * cell .rows ≤ size (now factors)) × (sizeIf «with_gradients» (at + cell .order * cell .rows) ≤ size (now slopes)) ⌝ }
+    ensures { λ _. ⌜ (now (factors .exit) ≡ stretch at (cell .order * cell .rows) (laid (cell .rows) (λ i n. S (cell .order) (now («node_polynomials» .entry)) n (getD (now (points .entry)) i nan))) (now (factors .entry))) × (now (slopes .exit) ≡ cond «with_gradients» (stretch at (cell .order * cell .rows) (laid (cell .rows) (λ i n. S′ (cell .order) (cell .length) (now («node_polynomials» .entry)) n (getD (now (points .entry)) i nan))) (now (slopes .entry))) (now (slopes .entry))) ⌝ }
 {
+    let order = cell.order;
+    let rows = cell.rows;
     chebyshev::evaluate_chebyshev_polynomials(order, rows, points, with_gradients, tn, dtn);
     let count = order * rows;
     sum_columns(order, rows, tn, node_polynomials, at, factors);
     finish_factors(order, count, at, factors);
     if with_gradients {
         sum_columns(order, rows, dtn, node_polynomials, at, slopes);
-        finish_slopes(order, length, count, at, slopes);
+        finish_slopes(order, cell.length, count, at, slopes);
     }
 }
 
 // S of all axes, and S' if gradients are wanted. The room of the values and of the gradients is worked in meanwhile.
 pub(crate) fn fill_axes(
-    dimension: usize,
-    order: usize,
-    rows: usize,
-    length: f64,
+    cell: Cell,
     with_gradients: bool,
     points: &[f64],
     node_polynomials: &[f64],
@@ -125,9 +123,12 @@ pub(crate) fn fill_axes(
     factors: &mut [f64],
     slopes: &mut [f64],
 )
-    requires { ⌜ Shape dimension order × (rows ≤ 4096) × (size (now points) ≡ dimension * rows) × (size (now «node_polynomials») ≡ order * order) × (order * rows ≤ size (now values)) × (sizeIf «with_gradients» (order * rows) ≤ size (now gradients)) × (size (now factors) ≡ dimension * order * rows) × (size (now slopes) ≡ sizeIf «with_gradients» (dimension * order * rows)) ⌝ }
-    ensures { λ _. ⌜ (now (factors .exit) ≡ columnMajor rows (dimension * order) (λ i c. S order (now («node_polynomials» .entry)) (c % order) (getD (now (points .entry)) (c / order * rows + i) nan))) × (now (slopes .exit) ≡ cond «with_gradients» (columnMajor rows (dimension * order) (λ i c. S′ order length (now («node_polynomials» .entry)) (c % order) (getD (now (points .entry)) (c / order * rows + i) nan))) (now (slopes .entry))) ⌝ }
+    requires { ⌜ Shape (cell .dimension) (cell .order) × (cell .rows ≤ 4096) × (size (now points) ≡ cell .dimension * cell .rows) × (size (now «node_polynomials») ≡ cell .order * cell .order) × (cell .order * cell .rows ≤ size (now values)) × (sizeIf «with_gradients» (cell .order * cell .rows) ≤ size (now gradients)) × (size (now factors) ≡ cell .dimension * cell .order * cell .rows) × (size (now slopes) ≡ sizeIf «with_gradients» (cell .dimension * cell .order * cell .rows)) ⌝ }
+    ensures { λ _. ⌜ (now (factors .exit) ≡ columnMajor (cell .rows) (cell .dimension * cell .order) (λ i c. S (cell .order) (now («node_polynomials» .entry)) (c % cell .order) (getD (now (points .entry)) (c / cell .order * cell .rows + i) nan))) × (now (slopes .exit) ≡ cond «with_gradients» (columnMajor (cell .rows) (cell .dimension * cell .order) (λ i c. S′ (cell .order) (cell .length) (now («node_polynomials» .entry)) (c % cell .order) (getD (now (points .entry)) (c / cell .order * cell .rows + i) nan))) (now (slopes .entry))) ⌝ }
 {
+    let dimension = cell.dimension;
+    let order = cell.order;
+    let rows = cell.rows;
     let count = order * rows;
     let derived = common::size_if(with_gradients, count);
     let mut axis = 0;
@@ -136,9 +137,7 @@ pub(crate) fn fill_axes(
     while axis < dimension {
         let end = from + rows;
         fill_axis(
-            order,
-            rows,
-            length,
+            cell,
             with_gradients,
             &points[from..end],
             node_polynomials,

@@ -3,6 +3,7 @@ ghost use mathlib.Core.Path.{_≡_};
 ghost use Prim.Native.Nat.{_≤_};
 ghost use Rattle.common.specs.Refusals.{Shape};
 ghost use Rattle.coefficients.specs.Coefficients.{lengthsFit, coefficientsNumber};
+use crate::cell::Cell;
 use crate::coordinates::all_finite;
 
 // The lengths of the lent buffers.
@@ -51,17 +52,17 @@ fn lengths_fit(
 
 // The lowest refusal, or 0.
 pub(crate) fn coefficients_number(
-    dimension: usize,
-    order: usize,
-    rows: usize,
-    length: f64,
+    cell: Cell,
     with_gradients: bool,
     centre: &[f64],
     points: &[f64],
     lent: Lengths,
 ) -> u8
-    ensures { λ r. ⌜ r ≡ coefficientsNumber dimension order rows length (now (centre .entry)) (now (points .entry)) (lengthsFit dimension order rows «with_gradients» (lent .points) (lent .centre) (lent .polynomials) (lent .values) (lent .gradients) (lent .factors) (lent .slopes)) ⌝ }
+    ensures { λ r. ⌜ r ≡ coefficientsNumber (cell .dimension) (cell .order) (cell .rows) (cell .length) (now (centre .entry)) (now (points .entry)) (lengthsFit (cell .dimension) (cell .order) (cell .rows) «with_gradients» (lent .points) (lent .centre) (lent .polynomials) (lent .values) (lent .gradients) (lent .factors) (lent .slopes)) ⌝ }
 {
+    let dimension = cell.dimension;
+    let order = cell.order;
+    let rows = cell.rows;
     let shape = common::shape_number(dimension, order);
     if shape != 0 {
         return shape;
@@ -72,7 +73,7 @@ pub(crate) fn coefficients_number(
     if !lengths_fit(dimension, order, rows, with_gradients, lent) {
         return common::WRONG_LENGTH;
     }
-    if !common::is_cell(length) {
+    if !common::is_cell(cell.length) {
         return common::NO_CELL;
     }
     if !all_finite(points) {

@@ -13,6 +13,7 @@ use crate::size::gradients;
 use crate::size::rows_if;
 use crate::size::square;
 use crate::size::values;
+use coefficients::Cell;
 
 // Kind 7: the coefficients of a cell's points; where the flag is set, those of gradients too.
 pub fn replay_coefficients(line: &mut [u8; 2048], case: Case) -> usize {
@@ -143,11 +144,14 @@ fn put_coefficients(
     values: &mut [f64],
     gradients: &mut [f64],
 ) -> usize {
-    let refusal = coefficients::get_approximation_coefficients(
-        case.dimension,
-        case.order,
-        case.rows,
+    let cell = Cell {
+        dimension: case.dimension,
+        order: case.order,
         length,
+        rows: case.rows,
+    };
+    let refusal = coefficients::get_approximation_coefficients(
+        cell,
         case.flag,
         centre,
         polynomials,

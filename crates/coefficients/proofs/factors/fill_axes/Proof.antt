@@ -18,33 +18,33 @@ use Rattle.coefficients.proofs.factors.fill_axes.Statement.{statement}
 use Rattle.coefficients.proofs.factors.fill_axes.Tie as tie
 
 abbrev Inv-loop : tie.InvT-loop
-Inv-loop dimension order rows length with-gradients points node-polynomials values₀ gradients₀ factors₀ slopes₀ count derived axis₀ from₀ at₀ values gradients factors slopes axis from at =
+Inv-loop box with-gradients points node-polynomials values₀ gradients₀ factors₀ slopes₀ dimension order rows count derived axis₀ from₀ at₀ values gradients factors slopes axis from at =
     (from ≡ axis * rows) × (size values ≡ size values₀) × (size gradients ≡ size gradients₀) × (size slopes ≡ size slopes₀) ×
-    Stepping 0 dimension count (cell rows (onAxes (S order node-polynomials) order rows points)) factors₀ factors axis at ×
-    (slopes ≡ cond with-gradients (stretch 0 (axis * count) (cell rows (onAxes (S′ order length node-polynomials) order rows points)) slopes₀) slopes₀)
+    Stepping 0 dimension count (cell rows (onAxes (S (box .order) node-polynomials) (box .order) rows points)) factors₀ factors axis at ×
+    (slopes ≡ cond with-gradients (stretch 0 (axis * count) (cell rows (onAxes (S′ (box .order) (box .length) node-polynomials) (box .order) rows points)) slopes₀) slopes₀)
 
 abbrev μ-loop : tie.MeasureT-loop
-μ-loop dimension order rows length with-gradients points node-polynomials values₀ gradients₀ factors₀ slopes₀ count derived axis₀ from₀ at₀ values gradients factors slopes axis from at = dimension - axis
+μ-loop box with-gradients points node-polynomials values₀ gradients₀ factors₀ slopes₀ dimension order rows count derived axis₀ from₀ at₀ values gradients factors slopes axis from at = dimension - axis
 
 -- the axis's points, and the room for its columns
-axis-room : (c : tie.In-loop Inv-loop μ-loop) → let a = c .before .before .before .before .before .before .before .before .before .args in c .before .loop .from + a .rows ≤ a .dimension * a .rows
+axis-room : (c : tie.In-loop Inv-loop μ-loop) → let a = c .before .before .before .before .before .before .before .before .before .args in c .before .loop .from + a .cell .rows ≤ a .cell .dimension * a .cell .rows
 axis-room c =
     let a = c .before .before .before .before .before .before .before .before .before .args in
-    column-fits (c .before .loop .axis) (a .dimension) (a .rows) (c .before .loop .from) (c .loop-test .taken) (c .before .loop .inv .0)
+    column-fits (c .before .loop .axis) (a .cell .dimension) (a .cell .rows) (c .before .loop .from) (c .loop-test .taken) (c .before .loop .inv .0)
 
-more : (c : tie.In-loop Inv-loop μ-loop) → let a = c .before .before .before .before .before .before .before .before .before .args in c .before .loop .axis * (a .order * a .rows) + a .order * a .rows ≤ a .dimension * a .order * a .rows
+more : (c : tie.In-loop Inv-loop μ-loop) → let a = c .before .before .before .before .before .before .before .before .before .args in c .before .loop .axis * (a .cell .order * a .cell .rows) + a .cell .order * a .cell .rows ≤ a .cell .dimension * a .cell .order * a .cell .rows
 more c =
     let a = c .before .before .before .before .before .before .before .before .before .args in
-    rw mul-assoc (column-fits (c .before .loop .axis) (a .dimension) (a .order * a .rows) _ (c .loop-test .taken) refl)
+    rw mul-assoc (column-fits (c .before .loop .axis) (a .cell .dimension) (a .cell .order * a .cell .rows) _ (c .loop-test .taken) refl)
 
-room : (c : tie.In-loop Inv-loop μ-loop) → let a = c .before .before .before .before .before .before .before .before .before .args in c .before .loop .at + a .order * a .rows ≤ a .dimension * a .order * a .rows
+room : (c : tie.In-loop Inv-loop μ-loop) → let a = c .before .before .before .before .before .before .before .before .before .args in c .before .loop .at + a .cell .order * a .cell .rows ≤ a .cell .dimension * a .cell .order * a .cell .rows
 room c = omega (arith, more c, c .before .loop .inv .4 .place)
 
 mul-count : tie.Need-mul-count Inv-loop μ-loop
 mul-count c =
     let s = c .before .before .before .before .before .before in
     let a = s .args in
-    omega (arith, mul-le-mul {n₁ = a .order} {m₁ = a .rows} {n₂ = 16} {m₂ = 4096} (s .pre .0 .order-most) (s .pre .1))
+    omega (arith, mul-le-mul {n₁ = a .cell .order} {m₁ = a .cell .rows} {n₂ = 16} {m₂ = 4096} (s .pre .0 .order-most) (s .pre .1))
 
 size-if-requires : tie.Need-size-if-requires Inv-loop μ-loop
 size-if-requires c κs = search needs
@@ -52,7 +52,7 @@ size-if-requires c κs = search needs
 loop-holds : tie.Need-loop-holds Inv-loop μ-loop
 loop-holds c =
     let a = c .before .before .before .before .before .before .before .args in
-    (sym (zero-mul _), refl, refl, refl, stepping-none 0 (a .dimension) _ (cell (a .rows) (onAxes (S (a .order) (a .node-polynomials .now)) (a .order) (a .rows) (a .points .now))) _, rw zero-mul (wanted-none (a .with-gradients) (cell (a .rows) (onAxes (S′ (a .order) (a .length) (a .node-polynomials .now)) (a .order) (a .rows) (a .points .now))) _))
+    (sym (zero-mul _), refl, refl, refl, stepping-none 0 (a .cell .dimension) _ (cell (a .cell .rows) (onAxes (S (a .cell .order) (a .node-polynomials .now)) (a .cell .order) (a .cell .rows) (a .points .now))) _, rw zero-mul (wanted-none (a .with-gradients) (cell (a .cell .rows) (onAxes (S′ (a .cell .order) (a .cell .length) (a .node-polynomials .now)) (a .cell .order) (a .cell .rows) (a .points .now))) _))
 
 add-end : tie.Need-add-end Inv-loop μ-loop
 add-end c = omega (arith, axis-room c, c .before .before .before .before .before .before .before .before .before .pre .2, c .before .before .before .before .before .before .before .before .before .good)
@@ -89,12 +89,12 @@ fill-axis-requires c κs =
       s .pre .0 .order-least,
       s .pre .0 .order-most,
       s .pre .1,
-      part-length _ _ (a .rows) _ refl (rw (s .pre .2) (axis-room (c .before .before .before .before .before))),
+      part-length _ _ (a .cell .rows) _ refl (rw (s .pre .2) (axis-room (c .before .before .before .before .before))),
       s .pre .3,
       length-take-le _ _ (omega (arith, s .pre .4, l .inv .1)),
       length-take-le _ _ (omega (arith, s .pre .5, l .inv .2, c .before .before .before .before .before .before .before .size-if .ensures)) ∙ c .before .before .before .before .before .before .before .size-if .ensures,
       omega (arith, room (c .before .before .before .before .before), l .inv .4 .long, s .pre .6),
-      wanted-fits (a .with-gradients) _ (a .dimension * a .order * a .rows) _ (room (c .before .before .before .before .before)) (l .inv .3 ∙ s .pre .7),
+      wanted-fits (a .with-gradients) _ (a .cell .dimension * a .cell .order * a .cell .rows) _ (room (c .before .before .before .before .before)) (l .inv .3 ∙ s .pre .7),
     )
 
 add-at : tie.Need-add-at Inv-loop μ-loop
@@ -113,15 +113,15 @@ loop-again c =
     let l = c .before .before .before .before .before .before .before .before .before .before .before .before .before .before .before .loop in
     let m = c .before .before .before .before .before .before .before .before .before .before .before .before .before .before .loop-test .taken in
     let call = c .before .before .before .before .before .before .before .before .fill-axis in (
-      omega (arith, next-column (l .axis) (a .rows), l .inv .0),
+      omega (arith, next-column (l .axis) (a .cell .rows), l .inv .0),
       search needs,
       search needs,
       search needs,
-      stepping-more 0 (a .dimension) _ (cell (a .rows) (onAxes (S (a .order) (a .node-polynomials .now)) (a .order) (a .rows) (a .points .now))) _ _ _ (l .axis) _ _ (l .inv .4) m (rw (s .pre .6, mul-assoc) (omega arith))
-          (axis-block (S (a .order) (a .node-polynomials .now)) (a .order) (a .rows) (a .points .now) (l .axis) (l .from) (l .inv .0)) (call .ensures .0),
-      rw (next-column (l .axis) (a .order * a .rows)) (wanted-more (a .with-gradients) (l .axis * (a .order * a .rows)) (l .at) (a .order * a .rows) (cell (a .rows) (onAxes (S′ (a .order) (a .length) (a .node-polynomials .now)) (a .order) (a .rows) (a .points .now))) _ (a .slopes .now) (l .slopes) _
-          (l .inv .4 .place ∙ zero-add _) (axis-block (S′ (a .order) (a .length) (a .node-polynomials .now)) (a .order) (a .rows) (a .points .now) (l .axis) (l .from) (l .inv .0))
-          (wanted-fits (a .with-gradients) _ (a .dimension * a .order * a .rows) _ (more (c .before .before .before .before .before .before .before .before .before .before .before .before .before .before)) (s .pre .7)) (l .inv .5) (call .ensures .1)),
+      stepping-more 0 (a .cell .dimension) _ (cell (a .cell .rows) (onAxes (S (a .cell .order) (a .node-polynomials .now)) (a .cell .order) (a .cell .rows) (a .points .now))) _ _ _ (l .axis) _ _ (l .inv .4) m (rw (s .pre .6, mul-assoc) (omega arith))
+          (axis-block (S (a .cell .order) (a .node-polynomials .now)) (a .cell .order) (a .cell .rows) (a .points .now) (l .axis) (l .from) (l .inv .0)) (call .ensures .0),
+      rw (next-column (l .axis) (a .cell .order * a .cell .rows)) (wanted-more (a .with-gradients) (l .axis * (a .cell .order * a .cell .rows)) (l .at) (a .cell .order * a .cell .rows) (cell (a .cell .rows) (onAxes (S′ (a .cell .order) (a .cell .length) (a .node-polynomials .now)) (a .cell .order) (a .cell .rows) (a .points .now))) _ (a .slopes .now) (l .slopes) _
+          (l .inv .4 .place ∙ zero-add _) (axis-block (S′ (a .cell .order) (a .cell .length) (a .node-polynomials .now)) (a .cell .order) (a .cell .rows) (a .points .now) (l .axis) (l .from) (l .inv .0))
+          (wanted-fits (a .with-gradients) _ (a .cell .dimension * a .cell .order * a .cell .rows) _ (more (c .before .before .before .before .before .before .before .before .before .before .before .before .before .before)) (s .pre .7)) (l .inv .5) (call .ensures .1)),
     )
 
 same-length : tie.Need-same-length Inv-loop μ-loop
@@ -141,10 +141,10 @@ returns c =
     let s = c .before .before .before .before .before .before .before .before .before in
     let a = s .args in
     let l = c .before .loop in
-    let all : l .axis ≡ a .dimension = omega (arith, l .inv .4 .most) in
-    let done = stepping-done 0 (a .dimension) _ (cell (a .rows) (onAxes (S (a .order) (a .node-polynomials .now)) (a .order) (a .rows) (a .points .now))) _ _ _ _ (l .inv .4) (c .loop-test .left) in (
-      rw (← mul-assoc) at done ∙ columns-filled (a .rows) (onAxes (S (a .order) (a .node-polynomials .now)) (a .order) (a .rows) (a .points .now)) (a .dimension * a .order) _ (s .pre .6),
-      wanted-filled (a .with-gradients) (a .rows) (a .dimension * a .order) (onAxes (S′ (a .order) (a .length) (a .node-polynomials .now)) (a .order) (a .rows) (a .points .now)) _ _ (s .pre .7)
+    let all : l .axis ≡ a .cell .dimension = omega (arith, l .inv .4 .most) in
+    let done = stepping-done 0 (a .cell .dimension) _ (cell (a .cell .rows) (onAxes (S (a .cell .order) (a .node-polynomials .now)) (a .cell .order) (a .cell .rows) (a .points .now))) _ _ _ _ (l .inv .4) (c .loop-test .left) in (
+      rw (← mul-assoc) at done ∙ columns-filled (a .cell .rows) (onAxes (S (a .cell .order) (a .node-polynomials .now)) (a .cell .order) (a .cell .rows) (a .points .now)) (a .cell .dimension * a .cell .order) _ (s .pre .6),
+      wanted-filled (a .with-gradients) (a .cell .rows) (a .cell .dimension * a .cell .order) (onAxes (S′ (a .cell .order) (a .cell .length) (a .node-polynomials .now)) (a .cell .order) (a .cell .rows) (a .points .now)) _ _ (s .pre .7)
           (rw (all, ← mul-assoc) at (l .inv .5)),
     )
 

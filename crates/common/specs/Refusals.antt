@@ -44,6 +44,10 @@ noCell = 8
 abbrev pub notFinite : ℕ
 notFinite = 9
 
+-- a mask byte is not 0 or 1
+abbrev pub noMask : ℕ
+noMask = 10
+
 -- The number n unless the test holds, and then what is left to say. Calls test from the lowest number up, so the lowest wins.
 abbrev pub unless : Bool → ℕ → ℕ → ℕ
 unless holds n rest = cond holds rest n

@@ -26,6 +26,8 @@ pub const NO_CELL: u8 = 8;
 
 pub const NOT_FINITE: u8 = 9;
 
+pub const NO_MASK: u8 = 10;
+
 // The shortest and the longest cell: 2^-20 and 2^30.
 const SHORTEST: f64 = 0.00000095367431640625;
 

@@ -15,10 +15,12 @@ pub mod utils {
     include!(env!("TEXT_UTILS"));
 }
 
-/// The cross approximation of the text.
+/// The cross approximation of the text, with our own door to its private function.
 #[allow(clippy::all)]
 pub mod aca {
     include!(env!("TEXT_ACA"));
+
+    pub mod reach;
 }
 
 pub mod bbfmm;

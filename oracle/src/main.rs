@@ -1,6 +1,7 @@
 //! Writes the input and the answers of every comparison into the repository its argument names.
 
 mod check;
+mod choices;
 mod coefficients;
 mod exact;
 mod floats;
@@ -68,6 +69,7 @@ fn floats() -> Stream {
     transfers::ask_all(&mut stream);
     points::ask_all(&mut stream);
     coefficients::ask_all(&mut stream);
+    choices::ask_all(&mut stream);
     stream
 }
 

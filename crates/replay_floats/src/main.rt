@@ -2,6 +2,7 @@
 mod blocks;
 mod case;
 mod cells;
+mod choices;
 mod float;
 mod line;
 mod operators;
@@ -11,6 +12,8 @@ mod size;
 
 use blocks::replay_block;
 use cells::replay_coefficients;
+use choices::replay_argmax;
+use choices::replay_cutoff;
 use operators::replay_operators;
 use placed::replay_sources;
 use placed::replay_targets;
@@ -31,6 +34,8 @@ fn replay_case() -> bool {
         5 => replay_targets(&mut line, case),
         6 => replay_sources(&mut line, case),
         7 => replay_coefficients(&mut line, case),
+        8 => replay_argmax(&mut line, case),
+        9 => replay_cutoff(&mut line, case),
         _ => line::put_unknown(&mut line, kind),
     };
     line::print(&mut line, to)

@@ -1,8 +1,8 @@
 -- `coefficients::columns::fill_columns` meets its contract. The loop keeps `Stepping`: the columns of the leads before `lead` are filled. Assumes nothing.
 use borrow.Author.Needs.{needs}
-use mathlib.Core.Path.{_≡_, refl, sym, ap, _∙_}
-use Prim.Native.Nat.{ℕ, _+_, _-_, _*_, _^_, _≤_}
-use native.Mathlib.Nat.{mul-le-mul, mul-assoc}
+use mathlib.Core.Path.{_≡_, refl, sym, _∙_}
+use Prim.Native.Nat.{_+_, _-_, _*_, _^_, _≤_}
+use native.Mathlib.Nat.{mul-le-mul}
 use native.Mathlib.Omega.{arith}
 use lib.ListN.{length as size}
 use Rattle.common.specs.Matrices.{cell}
@@ -22,7 +22,6 @@ Inv-loop dimension order rows axis starts factors out₀ side leads lead₀ at�
 abbrev μ-loop : tie.MeasureT-loop
 μ-loop dimension order rows axis starts factors out₀ side leads lead₀ at₀ out lead at = leads - lead
 
--- EXTRA
 -- the room of all leads, and of the next
 sides : (c : tie.At-loop Inv-loop μ-loop) → let a = c .before .before .before .before .before .before .args in c .before .power .result * (a .order * a .rows) ≡ a .order ^ a .dimension * a .rows
 sides c =
@@ -38,8 +37,6 @@ room c =
     let a = c .before .before .before .before .before .before .before .args in
     omega
     (arith, stepping-fits 0 _ _ (cell (a .rows) (productOf (a .dimension) (a .order) (a .rows) (a .axis) (a .starts .now) (a .factors .now))) _ _ _ _ (c .before .loop .inv) (c .loop-test .taken), whole c, c .before .loop .inv .long)
-
--- END
 
 mul-side : tie.Need-mul-side Inv-loop μ-loop
 mul-side c =

@@ -1,6 +1,6 @@
 -- `coefficients::columns::fill_lead` meets its contract, by the dimension. Assumes nothing.
 use borrow.Author.Needs.{needs}
-use mathlib.Core.Path.{_≡_, refl, sym, ap, _∙_}
+use mathlib.Core.Path.{_≡_, refl, ap, _∙_}
 use Prim.Native.Nat.{ℕ, _+_, _*_, _<_, _≤_}
 use native.Mathlib.Nat.{mul-le-mul}
 use native.Mathlib.Omega.{arith}
@@ -12,7 +12,6 @@ use Rattle.coefficients.proofs.Products.{second-below, third-below, pla
 use Rattle.coefficients.proofs.columns.fill_lead.Statement.{statement}
 use Rattle.coefficients.proofs.columns.fill_lead.Tie as tie
 
--- EXTRA
 -- there is a second axis, and a third
 two : (s : tie.Start) → secondAxis (s .args .axis) < s .args .dimension
 two s = omega (arith, second-below (s .args .axis), s .pre .1)
@@ -45,8 +44,6 @@ third-place : (c : tie.After-place-of2) →
 third-place c =
     let a = c .before .before .before .before .before .before .before .before .before .before .args in
     c .place-of2 .ensures ∙ ap (placeOf (a .dimension) (a .order) (a .rows) (a .lead * a .order)) (c .before .third-axis .ensures)
-
--- END
 
 mul-first : tie.Need-mul-first
 mul-first c =

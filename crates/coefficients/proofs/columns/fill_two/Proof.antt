@@ -1,10 +1,10 @@
 -- `coefficients::columns::fill_two` meets its contract. The loop keeps `Stepping`: the columns before n are filled. Assumes nothing.
 use borrow.Author.Needs.{needs}
-use mathlib.Core.Path.{_≡_, refl, sym, ap, _∙_}
-use Prim.Native.Nat.{ℕ, _+_, _-_, _*_, _≤_}
+use mathlib.Core.Path.{_≡_, refl, sym, _∙_}
+use Prim.Native.Nat.{_+_, _-_, _*_, _≤_}
 use native.Mathlib.Nat.{zero-mul, add-zero}
 use native.Mathlib.Omega.{arith}
-use lib.Ieee.{Float, nan}
+use lib.Ieee.{nan}
 use lib.ListN.{length as size, getD}
 use Rattle.common.specs.Floats.{times}
 use Rattle.common.specs.Matrices.{cell}
@@ -25,7 +25,6 @@ Inv-loop order rows start second starts factors out₀ a₀ b₀ at₀ n₀ out 
 abbrev μ-loop : tie.MeasureT-loop
 μ-loop order rows start second starts factors out₀ a₀ b₀ at₀ n₀ out a b at n = order - n
 
--- EXTRA
 -- the column's stretch of the result
 room : (c : tie.In-loop Inv-loop μ-loop) → c .before .loop .at + c .before .before .before .before .before .args .rows ≤ size (c .before .loop .out)
 room c =
@@ -40,8 +39,6 @@ first c = rw (c .before .loop .inv .0) (c .before .before .before .before .befor
 
 other : (c : tie.In-loop Inv-loop μ-loop) → c .before .loop .b + c .before .before .before .before .before .args .rows ≤ size (c .before .before .before .before .before .args .factors .now)
 other c = rw (c .before .loop .inv .1) (c .before .before .before .before .before .pre .1 .1 (c .before .loop .n) (c .loop-test .taken))
-
--- END
 
 loop-holds : tie.Need-loop-holds Inv-loop μ-loop
 loop-holds c = let a = c .before .before .before .args in (sym (rw (zero-mul, add-zero)), sym (rw (zero-mul, add-zero)), stepping-none 0 (a .order) (a .rows) (cell (a .rows) (λ i j. times (strided (a .starts .now) (a .start .from) (a .start .step) i j) (strided (a .factors .now) (a .second .from) (a .second .step) i j))) _)

@@ -1,6 +1,6 @@
 // The Chebyshev nodes of the orders 1 to 16, as a constant table, one row an order: Rattle has no cosine.
 ghost use mathlib.Core.Path.{_≡_};
-ghost use Prim.Native.Nat.{_<_, _≤_};
+ghost use Prim.Native.Nat.{_≤_};
 ghost use lib.ListN.{length};
 ghost use Rattle.common.specs.Lists.{tabulate};
 ghost use Rattle.chebyshev.specs.Nodes.{node, nodesNumber, nodesCall};

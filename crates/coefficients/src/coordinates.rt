@@ -4,7 +4,7 @@ ghost use Prim.Native.Nat.{_+_, _*_, _≤_};
 ghost use lib.Ieee.{nan};
 ghost use lib.Ieee.Scale.{finite};
 ghost use lib.ListN.{getD, length as size};
-ghost use Rattle.common.specs.Floats.{times, over, minus, half₆₄};
+ghost use Rattle.common.specs.Floats.{over, minus};
 ghost use Rattle.common.specs.Lists.{stretch};
 ghost use Rattle.common.specs.Matrices.{columnMajor};
 ghost use Rattle.coefficients.specs.Coefficients.{scaled, allFinite};

@@ -176,6 +176,15 @@ module _ {A : Type 0} where
       let place : 0 + n + j ≡ n + j = omega arith in
       ap (λ (k : ℕ). getD (stretch 0 n f l) k d) (sym place) ∙ stretch-after 0 f l n j d (omega arith) ∙ ap (λ (k : ℕ). getD l k d) place
 
+  -- a loop over a whole list, which changes each place in its turn
+  pub changing-front : (n : ℕ) (f : ℕ → A) (g : A → A) (before now : List A) (i : ℕ) (d v : A) → Filling 0 n f before now i → i < n → length before ≡ n →
+      f i ≡ g (getD before i d) → v ≡ g (getD now i d) → Filling 0 n f before (set now i v) (i + 1)
+  changing-front n f g before now i d v h l long e w =
+      changing-more 0 n f before g now i i d v h l (omega arith) (sym (zero-add i)) (e ∙ ap (λ (k : ℕ). g (getD before k d)) (sym (zero-add i))) w
+
+  pub filling-whole : (n : ℕ) (f : ℕ → A) (before now : List A) (i : ℕ) → Filling 0 n f before now i → n ≤ i → length before ≡ n → now ≡ tabulate n f
+  filling-whole n f before now i h l long = filling-done 0 n f before now i h l ∙ fill-all n f before long
+
   -- the next stretch goes on where the last ended
   pub fill-on : (n m : ℕ) (f g : ℕ → A) (l : List A) → ((i : ℕ) → i < m → g i ≡ f (n + i)) → n + m ≤ length l →
       stretch n m g (stretch 0 n f l) ≡ stretch 0 (n + m) f l

@@ -1,0 +1,16 @@
+-- `aca::advance::grow` meets its contract. Assumes nothing.
+use borrow.Author.Needs.{needs}
+use mathlib.Core.Path.{refl}
+use Rattle.aca.specs.Crosses.{grown, judged}
+use Rattle.aca.proofs.advance.grow.Statement.{statement}
+use Rattle.aca.proofs.advance.grow.Tie as tie
+
+add-t8 : tie.Need-add-t8
+add-t8 c = search needs
+
+returns : tie.Need-returns
+unfolding grown
+returns c = refl
+
+pub grow-spec : {M : Type 1} → statement M
+grow-spec = tie.close (tie.spec add-t8 returns)

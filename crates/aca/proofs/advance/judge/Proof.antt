@@ -1,0 +1,17 @@
+-- `aca::advance::judge` meets its contract. Assumes nothing.
+use borrow.Author.Needs.{needs}
+use mathlib.Core.Path.{refl}
+use Rattle.aca.specs.Crosses.{grown, judged}
+use Rattle.aca.proofs.advance.judge.Statement.{statement}
+use Rattle.aca.proofs.advance.judge.Tie as tie
+
+returns : tie.Need-returns
+unfolding judged
+returns c = rw (c .if1 .taken)
+
+returns-2 : tie.Need-returns-2
+unfolding judged
+returns-2 c = rw (c .if1 .left)
+
+pub judge-spec : {M : Type 1} → statement M
+judge-spec = tie.close (tie.spec returns returns-2)

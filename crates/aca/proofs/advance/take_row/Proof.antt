@@ -1,0 +1,28 @@
+-- `aca::advance::take_row` meets its contract. Assumes nothing.
+use borrow.Author.Needs.{needs}
+use Rattle.aca.proofs.advance.take_row.Statement.{statement}
+use Rattle.aca.proofs.advance.take_row.Tie as tie
+
+read-row-requires : tie.Need-read-row-requires
+read-row-requires c κs = search needs
+
+mark-requires : tie.Need-mark-requires
+mark-requires c κs = search needs
+
+pick-requires : tie.Need-pick-requires
+pick-requires c κs = search needs
+
+same-length : tie.Need-same-length
+same-length c = search needs
+
+same-length-2 : tie.Need-same-length-2
+same-length-2 c = search needs
+
+returns : tie.Need-returns
+returns c =
+    (c .pick .ensures, (c .before .before .before .before .before .before .before .before .before .before .read-row .ensures, (c .before .before .before .before .before .mark .ensures .0, c .before .before .before .before .before .mark .ensures .1)))
+
+pub take-row-spec : {M : Type 1} → statement M
+take-row-spec =
+    tie.close
+    (tie.spec read-row-requires mark-requires pick-requires same-length same-length-2 returns)

@@ -4,4 +4,6 @@ pub mod Lines
 pub mod Fronts
 pub mod Marked
 pub mod OneStep
+pub mod Repeated
+pub mod Answers
 pub mod Determined

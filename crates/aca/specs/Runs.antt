@@ -38,9 +38,11 @@ run (suc n) b tolerance s f = let o = step b tolerance s f in after (o .answer) 
 abbrev pub begin : Progress
 begin = record { estimate = zero₆₄; cross = zero₆₄; rank = 0; next = 0 }
 
+abbrev pub reported : (stop : ℕ) → Progress → (rows : ℕ) → Report
+reported w s n = record { rank = s .rank; estimate = s .estimate; stop = w; «rows_read» = n }
+
 unfoldable pub report : Finish → Report
-report e =
-    record { rank = e .state .rank; estimate = e .state .estimate; stop = e .stop; «rows_read» = length (e .found .rows) }
+report e = reported (e .stop) (e .state) (length (e .found .rows))
 
 -- LENT MEMORY: U, V, the lists of the rows and the columns read, and a working row and column
 
@@ -95,8 +97,11 @@ pub record Call : Type 0 where
   pub answer : Approximation
   pub leaves : Memory
 
+abbrev pub call : Approximation → Memory → Call
+call r t = record { answer = r; leaves = t }
+
 unfoldable pub acaCall : (m n : ℕ) → (samples : List Float) → (epsilon : Float) → Memory → Call
 acaCall m n a epsilon t =
     let e = approximation m n a epsilon t in
     let number = acaNumber m n a t in
-    record { answer = answered number (report e); leaves = left number (laid (e .found) t) t }
+    call (answered number (report e)) (left number (laid (e .found) t) t)

@@ -1,7 +1,7 @@
 -- How a run in memory stands for the rule's: the front of the memory after so many terms, and flags for what is unread.
 use Prim.Native.Nat.{ℕ, _*_, _<_, _≤_}
 use mathlib.Core.Path.{_≡_}
-use mathlib.Core.List.{List}
+use mathlib.Core.List.{List, []}
 use lib.ListN.{length, take}
 use Rattle.aca.specs.Argmax.{counts}
 use Rattle.aca.specs.Crosses.{Found, found, unread, Outcome}
@@ -41,3 +41,11 @@ pub record Stepped (o : Outcome) (t : Memory) (answer : Step) (after : Memory) (
   pub memory-is : after ≡ laid (o .found) t
   pub rows-marked : Marks rows (o .found .rows)
   pub columns-marked : Marks columns (o .found .columns)
+
+-- a run that begins: its lists have no more places than the block has rows or columns, and nothing is read
+pub record Begun (samples : ℕ) (t : Memory) (rows columns : List ℕ) : Type 0 where
+  pub sizes : Sizes samples t
+  pub short : length (t .«row-list») ≤ length (t .column)
+  pub narrow : length (t .«row-list») ≤ length (t .row)
+  pub rows-marked : Marks rows []
+  pub columns-marked : Marks columns []

@@ -3,10 +3,12 @@ mod advance;
 mod argmax;
 mod block;
 mod cutoff;
+mod run;
 mod terms;
 
 pub use argmax::argmax_masked;
 pub use cutoff::calculate_singular_values_cutoff;
+pub use run::aca_partial_pivoting;
 
 // A place in a list, or the number of a refusal.
 pub enum Place {

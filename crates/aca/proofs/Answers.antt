@@ -1,0 +1,113 @@
+-- What the call of cross approximation answers: a refusal, or the run that the lengths allow. Assumes nothing.
+use mathlib.Core.Path.{_≡_, refl, sym, _∙_}
+use mathlib.Core.Bool.{Bool, true, false, _&&_, and-eq-true-iff}
+use mathlib.Core.List.{List, []}
+use Prim.Native.Nat.{ℕ, zero, suc, _*_, _≤_, min}
+use native.Mathlib.Nat.{min-le-left, min-le-right}
+use native.Mathlib.Omega.{arith}
+use lib.Dec.{eqb, leb}
+use lib.Ieee.{Float}
+use lib.ListN.{length, replicate, getD-replicate}
+use borrow.Author.Tests.{eqb-true, leb-true, eq-eqb}
+use Rattle.common.specs.Floats.{times}
+use Rattle.common.specs.Refusals.{left}
+use Rattle.common.proofs.Cases.{by-bool}
+use Rattle.common.proofs.Limits.{left-done, left-refused}
+use Rattle.aca.specs.Argmax.{counts}
+use Rattle.aca.specs.Crosses.{unread}
+use Rattle.aca.specs.Runs.{run, begin, report, Memory, laid, blockOf, fits, acaNumber, start, approximation, answered, call, acaCall}
+use Rattle.aca.specs.Standing.{Marks, Begun}
+use Rattle.aca.specs.declared.Report.{Report}
+use Rattle.aca.specs.declared.Approximation.the-variants.{Refused, Done}
+
+-- flags that are all 1 say that nothing is read
+pub none-read : Marks (replicate 1024 1) []
+unfolding counts unread
+none-read k h = rw (getD-replicate {A = ℕ} 1024 k 1 0 h)
+
+-- what the number 0 says of the lengths
+record Fitting (m n : ℕ) (a : List Float) (t : Memory) : Type 0 where
+  tall : m ≤ 1024
+  wide : n ≤ 1024
+  samples-long : length a ≡ n * m
+  us-long : length (t .us) ≡ min m n * m
+  vs-long : length (t .vs) ≡ min m n * n
+  rows-long : length (t .«row-list») ≡ min m n
+  columns-long : length (t .«column-list») ≡ min m n
+  row-long : length (t .row) ≡ n
+  column-long : length (t .column) ≡ m
+
+-- both of two tests, and each
+both : (p q : Bool) → p && q ≡ true → (p ≡ true) × (q ≡ true)
+both p q = and-eq-true-iff p q .0
+
+fitting : (m n : ℕ) (a : List Float) (t : Memory) → acaNumber m n a t ≡ 0 → Fitting m n a t
+unfolding acaNumber fits
+fitting m n a t =
+    by-bool (leb m 1024 && leb n 1024)
+    (λ e. rw e
+    (by-bool (fits m n a t)
+    (λ f. rw f λ _.
+    let c = both _ _ e in
+    let f1 = both _ _ f in
+    let f2 = both _ _ (f1 .1) in
+    let f3 = both _ _ (f2 .1) in
+    let f4 = both _ _ (f3 .1) in
+    let f5 = both _ _ (f4 .1) in
+    let f6 = both _ _ (f5 .1) in
+    record {
+      tall = leb-true m 1024 (c .0);
+      wide = leb-true n 1024 (c .1);
+      samples-long = eqb-true _ _ (f1 .0);
+      us-long = eqb-true _ _ (f2 .0);
+      vs-long = eqb-true _ _ (f3 .0);
+      rows-long = eqb-true _ _ (f4 .0);
+      columns-long = eqb-true _ _ (f5 .0);
+      row-long = eqb-true _ _ (f6 .0);
+      column-long = eqb-true _ _ (f6 .1);
+    })
+    (λ f. rw f λ z. absurd (omega arith))))
+    (λ e. rw e λ z. absurd (omega arith))
+
+answered-refused : (number : ℕ) (r : Report) → (number ≡ 0 → ⊥) → answered number r ≡ Refused number
+answered-refused zero r h = absurd (h refl)
+answered-refused (suc n) r h = refl
+
+module _ (m n : ℕ) (a : List Float) (epsilon : Float) (t : Memory) (number : ℕ) (e : number ≡ acaNumber m n a t) where
+  pub refused : (number ≡ 0 → ⊥) → call (Refused number) t ≡ acaCall m n a epsilon t
+  unfolding acaCall
+  refused h =
+      let found = laid (approximation m n a epsilon t .found) t in
+      rw (← e, left-refused number found t h, answered-refused number (report (approximation m n a epsilon t)) h)
+
+  module _ (z : number ≡ 0) where
+    f : Fitting m n a t
+    f = fitting m n a t (sym e ∙ z)
+
+    pub begun : Begun (length a) t (replicate 1024 1) (replicate 1024 1)
+    begun =
+        record {
+          sizes =
+              record {
+                tall = rw (f .column-long) (f .tall);
+                wide = rw (f .row-long) (f .wide);
+                block = rw (f .row-long, f .column-long, f .samples-long) (omega arith);
+                left = rw (f .rows-long, f .column-long, f .us-long) (omega arith);
+                right = rw (f .rows-long, f .row-long, f .vs-long) (omega arith);
+                lists = f .columns-long ∙ sym (f .rows-long);
+              };
+          short = rw (f .rows-long, f .column-long) (min-le-left m n);
+          narrow = rw (f .rows-long, f .row-long) (min-le-right m n);
+          rows-marked = none-read;
+          columns-marked = none-read;
+        }
+
+    pub finished : (r : Report) (t' : Memory) →
+        r ≡ report (run (length (t .«row-list»)) (blockOf (length (t .column)) (length (t .row)) a) (times epsilon epsilon) begin (start t)) →
+        t' ≡ laid (run (length (t .«row-list»)) (blockOf (length (t .column)) (length (t .row)) a) (times epsilon epsilon) begin (start t) .found) t →
+        call (Done r) t' ≡ acaCall m n a epsilon t
+    unfolding acaCall approximation
+    finished r t' re te =
+        let r-is : r ≡ report (run (min m n) (blockOf m n a) (times epsilon epsilon) begin (start t)) = rw (f .rows-long, f .column-long, f .row-long) at re in
+        let t-is : t' ≡ laid (run (min m n) (blockOf m n a) (times epsilon epsilon) begin (start t) .found) t = rw (f .rows-long, f .column-long, f .row-long) at te in
+        rw (← e, z, left-done 0 (laid (run (min m n) (blockOf m n a) (times epsilon epsilon) begin (start t) .found) t) t refl, r-is, t-is)

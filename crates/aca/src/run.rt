@@ -1,0 +1,206 @@
+// Cross approximation of a block: the run of its steps, and the call.
+ghost use mathlib.Core.Path.{_≡_};
+ghost use Prim.Native.Nat.{_≤_, min};
+ghost use lib.ListN.{length};
+ghost use Rattle.aca.specs.Runs.{reported, report as reportOf, begin, run as runOf, start, memory, laid, blockOf, fits as fitsOf, acaNumber, call, acaCall};
+ghost use Rattle.aca.specs.Standing.{Begun};
+use crate::Approximation;
+use crate::Progress;
+use crate::Report;
+use crate::Step;
+use crate::advance::advance;
+
+// Why a run ends where no step stops it: there are as many terms as the block has rows or columns.
+const USED_UP: u8 = 3;
+
+fn report(stop: u8, s: Progress, rows_read: usize) -> Report
+    ensures { λ r. ⌜ r ≡ reported stop s «rows_read» ⌝ }
+{
+    Report {
+        rank: s.rank,
+        estimate: s.estimate,
+        stop,
+        rows_read,
+    }
+}
+
+// At most as many steps as the lists have places.
+fn run(
+    samples: &[f64],
+    tolerance: f64,
+    u: &mut [f64],
+    v: &mut [f64],
+    row_flags: &mut [u8; 1024],
+    column_flags: &mut [u8; 1024],
+    row_list: &mut [u16],
+    column_list: &mut [u16],
+    row: &mut [f64],
+    column: &mut [f64],
+) -> Report
+    requires { ⌜ Begun (length (now samples)) (memory (now u) (now v) (now «row_list») (now «column_list») (now row) (now column)) (now «row_flags») (now «column_flags») ⌝ }
+    ensures { λ r. ⌜ r ≡ reportOf (runOf (length (now («row_list» .entry))) (blockOf (length (now (column .entry))) (length (now (row .entry))) (now (samples .entry))) tolerance begin (start (memory (now (u .entry)) (now (v .entry)) (now («row_list» .entry)) (now («column_list» .entry)) (now (row .entry)) (now (column .entry))))) ⌝ }
+    ensures { λ _. ⌜ memory (now (u .exit)) (now (v .exit)) (now («row_list» .exit)) (now («column_list» .exit)) (now (row .exit)) (now (column .exit))
+        ≡ laid (runOf (length (now («row_list» .entry))) (blockOf (length (now (column .entry))) (length (now (row .entry))) (now (samples .entry))) tolerance begin (start (memory (now (u .entry)) (now (v .entry)) (now («row_list» .entry)) (now («column_list» .entry)) (now (row .entry)) (now (column .entry)))) .found)
+        (memory (now (u .entry)) (now (v .entry)) (now («row_list» .entry)) (now («column_list» .entry)) (now (row .entry)) (now (column .entry))) ⌝ }
+{
+    let most = row_list.len();
+    let mut s = Progress {
+        estimate: 0.0,
+        cross: 0.0,
+        rank: 0,
+        next: 0,
+    };
+    let mut k = 0;
+    while k < most {
+        let made = advance(
+            samples,
+            tolerance,
+            s,
+            u,
+            v,
+            row_flags,
+            column_flags,
+            row_list,
+            column_list,
+            row,
+            column,
+        );
+        match made {
+            Step::More(after) => {
+                s = after;
+            }
+            Step::Stop(why, after) => {
+                return report(why, after, k + 1);
+            }
+        }
+        k += 1;
+    }
+    report(USED_UP, s, most)
+}
+
+fn least(a: usize, b: usize) -> usize
+    ensures { λ r. ⌜ r ≡ min a b ⌝ }
+{
+    if a < b {
+        return a;
+    }
+    b
+}
+
+// Every buffer has its length.
+fn fits(
+    rows: usize,
+    columns: usize,
+    samples: &[f64],
+    u: &[f64],
+    v: &[f64],
+    row_list: &[u16],
+    column_list: &[u16],
+    row: &[f64],
+    column: &[f64],
+) -> bool
+    requires { ⌜ (rows ≤ 1024) × (columns ≤ 1024) ⌝ }
+    ensures { λ r. ⌜ r ≡ fitsOf rows columns (now (samples .entry)) (memory (now (u .entry)) (now (v .entry)) (now («row_list» .entry)) (now («column_list» .entry)) (now (row .entry)) (now (column .entry))) ⌝ }
+{
+    let most = least(rows, columns);
+    if samples.len() != columns * rows {
+        return false;
+    }
+    if u.len() != most * rows {
+        return false;
+    }
+    if v.len() != most * columns {
+        return false;
+    }
+    if row_list.len() != most {
+        return false;
+    }
+    if column_list.len() != most {
+        return false;
+    }
+    if row.len() != columns {
+        return false;
+    }
+    column.len() == rows
+}
+
+fn aca_number(
+    rows: usize,
+    columns: usize,
+    samples: &[f64],
+    u: &[f64],
+    v: &[f64],
+    row_list: &[u16],
+    column_list: &[u16],
+    row: &[f64],
+    column: &[f64],
+) -> u8
+    ensures { λ r. ⌜ r ≡ acaNumber rows columns (now (samples .entry)) (memory (now (u .entry)) (now (v .entry)) (now («row_list» .entry)) (now («column_list» .entry)) (now (row .entry)) (now (column .entry))) ⌝ }
+{
+    if 1024 < rows {
+        return common::NO_COUNT;
+    }
+    if 1024 < columns {
+        return common::NO_COUNT;
+    }
+    if fits(
+        rows,
+        columns,
+        samples,
+        u,
+        v,
+        row_list,
+        column_list,
+        row,
+        column,
+    ) {
+        return 0;
+    }
+    common::WRONG_LENGTH
+}
+
+// The block as a sum of products of columns, U by V, up to the tolerance epsilon; and the rows and columns that were read for it.
+pub fn aca_partial_pivoting(
+    rows: usize,
+    columns: usize,
+    samples: &[f64],
+    epsilon: f64,
+    u: &mut [f64],
+    v: &mut [f64],
+    row_list: &mut [u16],
+    column_list: &mut [u16],
+    row: &mut [f64],
+    column: &mut [f64],
+) -> Approximation
+    ensures { λ r. ⌜ call r (memory (now (u .exit)) (now (v .exit)) (now («row_list» .exit)) (now («column_list» .exit)) (now (row .exit)) (now (column .exit)))
+        ≡ acaCall rows columns (now (samples .entry)) epsilon (memory (now (u .entry)) (now (v .entry)) (now («row_list» .entry)) (now («column_list» .entry)) (now (row .entry)) (now (column .entry))) ⌝ }
+{
+    let number = aca_number(
+        rows,
+        columns,
+        samples,
+        u,
+        v,
+        row_list,
+        column_list,
+        row,
+        column,
+    );
+    if number != 0 {
+        return Approximation::Refused(number);
+    }
+    let mut row_flags = [1u8; 1024];
+    let mut column_flags = [1u8; 1024];
+    Approximation::Done(run(
+        samples,
+        epsilon * epsilon,
+        u,
+        v,
+        &mut row_flags,
+        &mut column_flags,
+        row_list,
+        column_list,
+        row,
+        column,
+    ))
+}

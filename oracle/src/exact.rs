@@ -108,12 +108,12 @@ impl Mul for Exact {
     }
 }
 
-/// Divides by powers of two only.
+/// Divides by powers of two of either sign only.
 impl Div for Exact {
     type Output = Self;
 
     fn div(self, other: Self) -> Self {
-        assert_eq!(other.whole, 1, "a divisor that is no power of two");
-        Self::new(self.whole, self.exponent - other.exponent)
+        assert_eq!(other.whole.abs(), 1, "a divisor that is no power of two");
+        Self::new(self.whole * other.whole, self.exponent - other.exponent)
     }
 }

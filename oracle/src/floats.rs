@@ -25,6 +25,8 @@ pub struct Stream {
     pub answers: String,
     /// How many cases were checked to have no operation that rounds.
     pub unrounded: usize,
+    /// How many crosses have a cross term of -0.0, where the rule has +0.0.
+    pub negative_zeros: usize,
     counts: BTreeMap<u8, usize>,
 }
 
@@ -58,6 +60,10 @@ impl Stream {
             self.unrounded
         );
         println!(
+            "{name}: a cross term of -0.0 in {} cases",
+            self.negative_zeros
+        );
+        println!(
             "{name}: {} bytes, {} lines",
             self.input.len(),
             self.answers.lines().count()
@@ -69,7 +75,15 @@ fn bits(float: f64) -> u64 {
     if float.is_nan() { NAN } else { float.to_bits() }
 }
 
-fn checksum(list: &[f64]) -> u64 {
+/// Whether two lists hold the same bits, where every NaN has the same.
+pub fn same(one: &[f64], other: &[f64]) -> bool {
+    one.iter()
+        .copied()
+        .map(bits)
+        .eq(other.iter().copied().map(bits))
+}
+
+pub fn checksum(list: &[f64]) -> u64 {
     list.iter()
         .flat_map(|&float| [bits(float) >> 32, bits(float) & 0xffff_ffff])
         .fold(0, |sum, half| (sum * 65599 + half + 1) % 4294967291)

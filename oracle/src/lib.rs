@@ -23,6 +23,13 @@ pub mod aca {
     pub mod reach;
 }
 
+/// The cross approximation once more, with lines that the build added to note what it does.
+#[allow(clippy::all)]
+pub mod noted {
+    include!(concat!(env!("OUT_DIR"), "/noted.rs"));
+}
+pub mod notes;
+
 pub mod bbfmm;
 
 /// The tables and transfers of the text, with our own door to its private functions.

@@ -3,8 +3,15 @@
 mod check;
 mod choices;
 mod coefficients;
+mod cross;
+mod cross_blocks;
+mod cross_exact;
+mod cross_orders;
+mod cross_rule;
+mod crosses;
 mod exact;
 mod floats;
+mod large_cross;
 mod lookup;
 mod operators;
 mod points;
@@ -12,6 +19,7 @@ mod polynomials;
 mod random;
 mod replay;
 mod special_cells;
+mod special_crosses;
 mod transfers;
 mod unrounded;
 
@@ -63,14 +71,26 @@ fn write_all(root: &Path, replay: &Replay, lookup: &Lookup) -> Result<(), String
 }
 
 /// The replays on floats, one after the other.
-fn floats() -> Stream {
+fn floats() -> Result<Stream, String> {
     let mut stream = Stream::default();
     polynomials::ask_all(&mut stream);
     transfers::ask_all(&mut stream);
     points::ask_all(&mut stream);
     coefficients::ask_all(&mut stream);
     choices::ask_all(&mut stream);
-    stream
+    crosses::ask_all(&mut stream)?;
+    Ok(stream)
+}
+
+/// What is only printed: figures, and the answer of a large block if the second argument asks for it.
+fn findings() -> Result<Vec<String>, String> {
+    let mut lines = cross_orders::lines()?;
+    match env::args_os().nth(2) {
+        None => {}
+        Some(word) if word == "large" => lines.push(large_cross::line()?),
+        Some(other) => return Err(format!("no such argument: {}", other.display())),
+    }
+    Ok(lines)
 }
 
 fn run() -> Result<(), String> {
@@ -87,11 +107,13 @@ fn run() -> Result<(), String> {
     let replay = replay::replay(&tables);
     let lookup = lookup::lookup(&tables);
     check::refusals(&lookup)?;
-    let floats = floats();
+    let floats = floats()?;
+    let findings = findings()?;
     write_all(&root, &replay, &lookup)?;
     check::count(&tables, &replay, &lookup);
     write_run(&root, "replay_floats", &floats.input, &floats.answers)?;
     floats.count("replay_floats");
+    findings.iter().for_each(|line| println!("{line}"));
     Ok(())
 }
 

@@ -1,5 +1,5 @@
 // A line of text that is put together in an array. Each function that puts something answers the
-// place past it. What has no room is left out: the longest line of a replay has 1,215 bytes.
+// place past it. What has no room is left out: the longest line of a replay has 1,226 bytes.
 use crate::float::bits_of;
 use crate::float::checksum;
 use libc::STDOUT_FILENO;
@@ -31,7 +31,7 @@ pub fn put_number(line: &mut [u8; 2048], to: usize, n: u64) -> usize {
 }
 
 // A space and a float, as the sixteen digits of its bits.
-fn put_float(line: &mut [u8; 2048], to: usize, x: f64) -> usize {
+pub fn put_float(line: &mut [u8; 2048], to: usize, x: f64) -> usize {
     if x != x {
         return put(line, to, b" nan");
     }
@@ -52,7 +52,7 @@ fn put_each(line: &mut [u8; 2048], to: usize, list: &[f64]) -> usize {
 }
 
 // The floats of a list where they are few, and otherwise the mark # and their checksum.
-fn put_floats(line: &mut [u8; 2048], to: usize, list: &[f64]) -> usize {
+pub fn put_floats(line: &mut [u8; 2048], to: usize, list: &[f64]) -> usize {
     if list.len() <= 32 {
         return put_each(line, to, list);
     }

@@ -3,6 +3,7 @@ mod blocks;
 mod case;
 mod cells;
 mod choices;
+mod crosses;
 mod float;
 mod line;
 mod operators;
@@ -14,6 +15,7 @@ use blocks::replay_block;
 use cells::replay_coefficients;
 use choices::replay_argmax;
 use choices::replay_cutoff;
+use crosses::replay_cross;
 use operators::replay_operators;
 use placed::replay_sources;
 use placed::replay_targets;
@@ -36,6 +38,7 @@ fn replay_case() -> bool {
         7 => replay_coefficients(&mut line, case),
         8 => replay_argmax(&mut line, case),
         9 => replay_cutoff(&mut line, case),
+        10 => replay_cross(&mut line, case),
         _ => line::put_unknown(&mut line, kind),
     };
     line::print(&mut line, to)

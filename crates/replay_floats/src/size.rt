@@ -62,3 +62,14 @@ pub fn gradients(dimension: usize, order: usize, rows: usize) -> usize
 {
     up_to(3, dimension) * values(dimension, order, rows)
 }
+
+// How many entries a block of two sides has.
+pub fn area(rows: usize, columns: usize) -> usize
+    ensures { λ r. ⌜ r ≤ 4096 ⌝ }
+{
+    up_to(4096, up_to(4096, rows) * up_to(4096, columns))
+}
+
+pub fn lesser(a: usize, b: usize) -> usize {
+    if a < b { a } else { b }
+}

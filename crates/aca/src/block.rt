@@ -6,14 +6,8 @@ ghost use lib.ListN.{length, getD};
 ghost use Rattle.common.specs.Floats.{minus};
 ghost use Rattle.common.specs.Lists.{tabulate};
 ghost use Rattle.aca.specs.Crosses.{matrix, residual};
+use crate::reader::sample;
 use crate::terms::sum_terms;
-
-fn entry(samples: &[f64], rows: usize, i: usize, j: usize) -> f64
-    requires { ⌜ j * rows + i < length (now samples) ⌝ }
-    ensures { λ r. ⌜ r ≡ matrix rows (now (samples .entry)) i j ⌝ }
-{
-    samples[j * rows + i]
-}
 
 // Each entry of row i of the block, less what stands in its place.
 fn subtract_from_row(samples: &[f64], rows: usize, i: usize, row: &mut [f64])
@@ -23,7 +17,7 @@ fn subtract_from_row(samples: &[f64], rows: usize, i: usize, row: &mut [f64])
     let n = row.len();
     let mut c = 0;
     while c < n {
-        row[c] = entry(samples, rows, i, c) - row[c];
+        row[c] = sample(samples, rows, i, c) - row[c];
         c += 1;
     }
 }
@@ -36,7 +30,7 @@ fn subtract_from_column(samples: &[f64], j: usize, column: &mut [f64])
     let m = column.len();
     let mut i = 0;
     while i < m {
-        column[i] = entry(samples, m, i, j) - column[i];
+        column[i] = sample(samples, m, i, j) - column[i];
         i += 1;
     }
 }

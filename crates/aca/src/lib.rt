@@ -3,6 +3,7 @@ mod advance;
 mod argmax;
 mod block;
 mod cutoff;
+mod reader;
 mod run;
 mod terms;
 

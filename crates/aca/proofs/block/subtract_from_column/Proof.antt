@@ -23,8 +23,8 @@ loop-holds : tie.Need-loop-holds Inv-loop μ-loop
 loop-holds c =
     (refl, filling-none 0 _ (λ k. minus (matrix (length (c .before .before .args .column .now)) (c .before .before .args .samples .now) k (c .before .before .args .j)) (getD (c .before .before .args .column .now) k nan)) _)
 
-entry-requires : tie.Need-entry-requires Inv-loop μ-loop
-entry-requires c κs =
+sample-requires : tie.Need-sample-requires Inv-loop μ-loop
+sample-requires c κs =
     let l = c .before .loop .inv in
     rw (l .0) (omega (arith, c .loop-test .taken, l .0, c .before .before .before .before .pre))
 
@@ -51,7 +51,7 @@ loop-again c =
     let a = c .before .before .before .before .before .before .args in
     let l = c .before .before .before .loop in
     let m = length (a .column .now) in
-    (l .inv .0, changing-front _ (λ k. minus (matrix m (a .samples .now) k (a .j)) (getD (a .column .now) k nan)) (λ x. minus (matrix m (a .samples .now) (l .i) (a .j)) x) _ _ _ nan _ (l .inv .1) (c .before .before .loop-test .taken) (sym (l .inv .0)) refl (rw (c .before .entry .ensures, l .inv .0)))
+    (l .inv .0, changing-front _ (λ k. minus (matrix m (a .samples .now) k (a .j)) (getD (a .column .now) k nan)) (λ x. minus (matrix m (a .samples .now) (l .i) (a .j)) x) _ _ _ nan _ (l .inv .1) (c .before .before .loop-test .taken) (sym (l .inv .0)) refl (rw (c .before .sample .ensures, l .inv .0)))
 
 same-length : tie.Need-same-length Inv-loop μ-loop
 same-length c = c .before .loop .inv .1 .long
@@ -69,7 +69,7 @@ subtract-from-column-spec =
     Inv-loop
     μ-loop
     loop-holds
-    entry-requires
+    sample-requires
     mul-column
     slice-read-column
     mul-column-2

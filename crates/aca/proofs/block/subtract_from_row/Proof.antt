@@ -23,8 +23,8 @@ loop-holds : tie.Need-loop-holds Inv-loop μ-loop
 loop-holds c =
     (refl, filling-none 0 _ (λ k. minus (matrix (c .before .before .args .rows) (c .before .before .args .samples .now) (c .before .before .args .i) k) (getD (c .before .before .args .row .now) k nan)) _)
 
-entry-requires : tie.Need-entry-requires Inv-loop μ-loop
-entry-requires c κs =
+sample-requires : tie.Need-sample-requires Inv-loop μ-loop
+sample-requires c κs =
     let s = c .before .before .before .before in
     let inside : c .before .loop .c < length (s .args .row .now) = omega (arith, c .loop-test .taken, c .before .loop .inv .0) in
     let fits = digits-lt inside (s .pre .0) in
@@ -52,7 +52,7 @@ loop-again : tie.Need-loop-again Inv-loop μ-loop
 loop-again c =
     let a = c .before .before .before .before .before .before .args in
     let l = c .before .before .before .loop in
-    (l .inv .0, changing-front _ (λ k. minus (matrix (a .rows) (a .samples .now) (a .i) k) (getD (a .row .now) k nan)) (λ x. minus (matrix (a .rows) (a .samples .now) (a .i) (l .c)) x) _ _ _ nan _ (l .inv .1) (c .before .before .loop-test .taken) (sym (l .inv .0)) refl (rw (c .before .entry .ensures)))
+    (l .inv .0, changing-front _ (λ k. minus (matrix (a .rows) (a .samples .now) (a .i) k) (getD (a .row .now) k nan)) (λ x. minus (matrix (a .rows) (a .samples .now) (a .i) (l .c)) x) _ _ _ nan _ (l .inv .1) (c .before .before .loop-test .taken) (sym (l .inv .0)) refl (rw (c .before .sample .ensures)))
 
 same-length : tie.Need-same-length Inv-loop μ-loop
 same-length c = c .before .loop .inv .1 .long
@@ -70,7 +70,7 @@ subtract-from-row-spec =
     Inv-loop
     μ-loop
     loop-holds
-    entry-requires
+    sample-requires
     mul-row
     slice-read-row
     mul-row-2

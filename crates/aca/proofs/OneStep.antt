@@ -1,6 +1,6 @@
 -- A step in memory is a step of the rule: where the row has no pivot, and where it has one. Assumes nothing.
-use mathlib.Core.Path.{_≡_, refl, sym, ap, subst, _∙_}
-use mathlib.Core.Bool.{Bool, true, false}
+use mathlib.Core.Path.{_≡_, refl, sym, ap, _∙_}
+use mathlib.Core.Bool.{true, false}
 use mathlib.Core.List.{List, [], _∷_, _++_}
 use Prim.Native.Nat.{ℕ, _+_, _*_, _<_, _≤_}
 use native.Mathlib.Omega.{arith}
@@ -8,15 +8,15 @@ use lib.Arith.{digits-lt}
 use lib.Ieee.{Float, nan, lt}
 use lib.ListN.{length, getD, set, take}
 use lib.Seq.{getD-take}
-use Rattle.common.specs.Floats.{minus, times, over, one₆₄, sums}
+use Rattle.common.specs.Floats.{minus, times, over, one₆₄}
 use Rattle.common.specs.Lists.{stretch}
 use Rattle.common.proofs.Fill.{length-tabulate, tabulate-cong}
 use Rattle.common.proofs.Matrices.{column-fits}
 use Rattle.common.proofs.Sums.{sums-cong}
 use Rattle.aca.specs.Argmax.{size, argmax, counts}
-use Rattle.aca.specs.Crosses.{Block, matrix, Found, found, residual, residualRow, scaled, unread, rowRead, columnRead, inner, entry, norm, cross, grown, spent, tiny₆₄, judged, outcome, stored, accepted, tried, step}
+use Rattle.aca.specs.Crosses.{Block, matrix, Found, found, residual, scaled, unread, rowRead, columnRead, inner, entry, norm, cross, grown, spent, tiny₆₄, judged, outcome, stored, accepted, tried, step}
 use Rattle.aca.specs.Runs.{Memory, memory, laid, blockOf}
-use Rattle.aca.specs.Standing.{standing, Sizes, Ready, Stepped}
+use Rattle.aca.specs.Standing.{standing, Ready, Stepped}
 use Rattle.aca.specs.declared.Progress.{Progress}
 use Rattle.aca.specs.declared.Step.{Step}
 use Rattle.aca.specs.declared.Step.the-variants.{Stop}

@@ -1,6 +1,5 @@
 -- The run in memory is the rule's: after k steps what is left of it, from where the memory stands, is the whole run. Assumes nothing.
 use mathlib.Core.Path.{_≡_, refl, sym, ap, subst, _∙_}
-use mathlib.Core.Bool.{Bool, true, false, cond}
 use mathlib.Core.List.{List, [], _∷_, _++_}
 use Prim.Native.Nat.{ℕ, suc, _+_, _-_, _*_, _<_, _≤_}
 use native.Mathlib.Nat.{zero-mul}
@@ -13,14 +12,13 @@ use Rattle.common.proofs.Cases.{by-bool}
 use Rattle.common.proofs.Fill.{length-tabulate}
 use Rattle.common.proofs.Matrices.{next-column, column-fits}
 use Rattle.aca.specs.Argmax.{size, argmax}
-use Rattle.aca.specs.Crosses.{Block, Found, found, residual, scaled, unread, rowRead, columnRead, norm, cross, grown, tiny₆₄, judged, Outcome, outcome, stored, accepted, tried, step}
-use Rattle.aca.specs.Runs.{Finish, finish, after, run, begin, reported, report, Memory, memory, laid, blockOf, start}
-use Rattle.aca.specs.Standing.{standing, Marks, Sizes, Ready, Stepped, Begun}
+use Rattle.aca.specs.Crosses.{Block, Found, residual, scaled, unread, rowRead, columnRead, norm, cross, grown, tiny₆₄, judged, Outcome, stored, accepted, tried, step}
+use Rattle.aca.specs.Runs.{Finish, finish, after, run, begin, reported, report, Memory, laid, blockOf, start}
+use Rattle.aca.specs.Standing.{standing, Marks, Ready, Stepped, Begun}
 use Rattle.aca.specs.declared.Progress.{Progress}
 use Rattle.aca.specs.declared.Step.{Step}
 use Rattle.aca.specs.declared.Step.the-variants.{More, Stop}
-use Rattle.aca.specs.declared.Report.{Report}
-use Rattle.aca.proofs.Fronts.{upon-same, upon-upon, take-upon}
+use Rattle.aca.proofs.Fronts.{upon-upon, take-upon}
 use Rattle.aca.proofs.Marked.{argmax-in}
 
 -- HOW MUCH A STEP FINDS

@@ -1,13 +1,13 @@
 -- Cross approximation, the run: steps from row 0 on, at most as many as the block has rows or columns; its report; and the call.
 use Prim.Native.Nat.{ℕ, zero, suc, _*_, min}
-use mathlib.Core.Bool.{Bool, _&&_, cond}
+use mathlib.Core.Bool.{Bool, _&&_}
 use mathlib.Core.List.{List, [], _++_}
 use lib.Dec.{eqb, leb}
 use lib.Ieee.{Float}
 use lib.ListN.{length, drop}
 use Rattle.common.specs.Floats.{times, zero₆₄}
 use Rattle.common.specs.Refusals.{noCount, wrongLength, unless, left}
-use Rattle.aca.specs.Crosses.{Block, matrix, Found, found, Outcome, usedUp, step}
+use Rattle.aca.specs.Crosses.{Block, matrix, Found, found, usedUp, step}
 use Rattle.aca.specs.declared.Progress.{Progress}
 use Rattle.aca.specs.declared.Step.{Step}
 use Rattle.aca.specs.declared.Step.the-variants.{More, Stop}

@@ -156,7 +156,7 @@ fn accept(
 }
 
 // The step: it answers the state to go on with, or why the run stops.
-pub fn advance(
+pub(crate) fn advance(
     samples: &[f64],
     tolerance: f64,
     s: Progress,

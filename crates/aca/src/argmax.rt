@@ -6,7 +6,7 @@ ghost use Rattle.aca.specs.Argmax.{size, isMask, counts, argmax, argmaxC
 use crate::Place;
 
 // The size of a float; a zero keeps its sign, which no comparison sees.
-pub fn size_of(x: f64) -> f64
+pub(crate) fn size_of(x: f64) -> f64
     ensures { λ r. ⌜ r ≡ size x ⌝ }
 {
     if x < 0.0 {
@@ -29,7 +29,7 @@ fn is_mask(mask: &[u8]) -> bool
     true
 }
 
-pub fn pick(entries: &[f64], mask: &[u8]) -> usize
+pub(crate) fn pick(entries: &[f64], mask: &[u8]) -> usize
     requires { ⌜ length (now entries) ≤ length (now mask) ⌝ }
     ensures { λ r. ⌜ r ≡ argmax (now (entries .entry)) (counts (now (mask .entry))) ⌝ }
 {

@@ -36,7 +36,7 @@ fn subtract_from_column(samples: &[f64], j: usize, column: &mut [f64])
 }
 
 // Row i of the block, of so many rows, less the first k terms.
-pub fn read_row(
+pub(crate) fn read_row(
     samples: &[f64],
     rows: usize,
     i: usize,
@@ -54,7 +54,7 @@ pub fn read_row(
 }
 
 // Column j of the block, of so many columns, less the first k terms.
-pub fn read_column(
+pub(crate) fn read_column(
     samples: &[f64],
     columns: usize,
     j: usize,

@@ -6,7 +6,7 @@ ghost use lib.ListN.{length};
 ghost use Rattle.aca.specs.Crosses.{matrix};
 
 // The samples of a block, with their row count.
-pub struct Samples<'a> {
+pub(crate) struct Samples<'a> {
     pub entries: &'a [f64],
     pub rows: usize,
 }
@@ -32,7 +32,7 @@ fn at<'a>(samples: Samples<'a>, i: usize, j: usize) -> f64
 }
 
 // Its parameters are plain: the struct stays in a local.
-pub fn sample(entries: &[f64], rows: usize, i: usize, j: usize) -> f64
+pub(crate) fn sample(entries: &[f64], rows: usize, i: usize, j: usize) -> f64
     requires { ⌜ j * rows + i < length (now entries) ⌝ }
     ensures { λ x. ⌜ x ≡ matrix rows (now (entries .entry)) i j ⌝ }
 {

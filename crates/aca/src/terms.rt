@@ -8,7 +8,7 @@ ghost use Rattle.common.specs.Lists.{tabulate, stretch};
 ghost use Rattle.aca.specs.Crosses.{matrix, scaled, norm as normOf, cross as crossOf};
 
 // Writes the sum of the first k columns of a matrix, each times a factor: entry `at` of each column of another.
-pub fn sum_terms(
+pub(crate) fn sum_terms(
     k: usize,
     terms: &[f64],
     factors: &[f64],
@@ -28,7 +28,7 @@ pub fn sum_terms(
     }
 }
 
-pub fn scale(factor: f64, line: &mut [f64])
+pub(crate) fn scale(factor: f64, line: &mut [f64])
     ensures { λ _. ⌜ now (line .exit) ≡ scaled factor (now (line .entry)) ⌝ }
 {
     let n = line.len();
@@ -39,7 +39,7 @@ pub fn scale(factor: f64, line: &mut [f64])
     }
 }
 
-pub fn norm(column: &[f64], row: &[f64]) -> f64
+pub(crate) fn norm(column: &[f64], row: &[f64]) -> f64
     ensures { λ r. ⌜ r ≡ normOf (now (column .entry)) (now (row .entry)) ⌝ }
 {
     let a = common::dot(column.len(), column, 0, 1, column, 0, 1);
@@ -48,7 +48,7 @@ pub fn norm(column: &[f64], row: &[f64]) -> f64
 }
 
 // What the new term has in common with the k earlier ones.
-pub fn cross(k: usize, u: &[f64], v: &[f64], column: &[f64], row: &[f64]) -> f64
+pub(crate) fn cross(k: usize, u: &[f64], v: &[f64], column: &[f64], row: &[f64]) -> f64
     requires { ⌜ (k * length (now column) ≤ length (now u)) × (k * length (now row) ≤ length (now v)) ⌝ }
     ensures { λ r. ⌜ r ≡ crossOf k (now (u .entry)) (now (v .entry)) (now (column .entry)) (now (row .entry)) ⌝ }
 {
@@ -66,7 +66,7 @@ pub fn cross(k: usize, u: &[f64], v: &[f64], column: &[f64], row: &[f64]) -> f64
 }
 
 // Stores the column and the row as u and v of term k.
-pub fn store(k: usize, u: &mut [f64], v: &mut [f64], column: &[f64], row: &[f64])
+pub(crate) fn store(k: usize, u: &mut [f64], v: &mut [f64], column: &[f64], row: &[f64])
     requires { ⌜ (k * length (now column) + length (now column) ≤ length (now u)) × (k * length (now row) + length (now row) ≤ length (now v)) ⌝ }
     ensures { λ _. ⌜ now (u .exit) ≡ stretch (k * length (now (column .entry))) (length (now (column .entry))) (λ i. getD (now (column .entry)) i nan) (now (u .entry)) ⌝ }
     ensures { λ _. ⌜ now (v .exit) ≡ stretch (k * length (now (row .entry))) (length (now (row .entry))) (λ i. getD (now (row .entry)) i nan) (now (v .entry)) ⌝ }

@@ -1,8 +1,7 @@
 -- `aca::advance::accept` meets its contract. Assumes nothing.
 use borrow.Author.Needs.{needs}
-use mathlib.Core.Path.{_≡_, refl, sym, _∙_}
+use mathlib.Core.Path.{_∙_}
 use native.Mathlib.Omega.{arith}
-use lib.ListN.{length}
 use Rattle.aca.proofs.advance.accept.Statement.{statement}
 use Rattle.aca.proofs.advance.accept.Tie as tie
 

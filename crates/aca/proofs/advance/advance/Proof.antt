@@ -1,7 +1,6 @@
 -- `aca::advance::advance` meets its contract: what it does in memory is one step of the rule. Assumes nothing.
 use borrow.Author.Needs.{needs}
-use mathlib.Core.Path.{_≡_, refl, sym, _∙_}
-use Prim.Native.Nat.{_<_, _≤_, _+_, _*_}
+use Prim.Native.Nat.{_<_}
 use native.Mathlib.Omega.{arith}
 use lib.ListN.{length}
 use Rattle.aca.proofs.OneStep.{left-room, right-room, pivot-in, stopped, went-on}

@@ -1,7 +1,7 @@
 -- `aca::advance::grow` meets its contract. Assumes nothing.
 use borrow.Author.Needs.{needs}
 use mathlib.Core.Path.{refl}
-use Rattle.aca.specs.Crosses.{grown, judged}
+use Rattle.aca.specs.Crosses.{grown}
 use Rattle.aca.proofs.advance.grow.Statement.{statement}
 use Rattle.aca.proofs.advance.grow.Tie as tie
 

@@ -1,7 +1,5 @@
 -- `aca::advance::judge` meets its contract. Assumes nothing.
-use borrow.Author.Needs.{needs}
-use mathlib.Core.Path.{refl}
-use Rattle.aca.specs.Crosses.{grown, judged}
+use Rattle.aca.specs.Crosses.{judged}
 use Rattle.aca.proofs.advance.judge.Statement.{statement}
 use Rattle.aca.proofs.advance.judge.Tie as tie
 

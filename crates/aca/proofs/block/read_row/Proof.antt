@@ -1,10 +1,6 @@
 -- `aca::block::read_row` meets its contract. Assumes nothing.
 use borrow.Author.Needs.{needs}
-use mathlib.Core.Path.{_≡_, refl, sym}
-use Prim.Native.Nat.{_+_, _*_, _≤_}
-use native.Mathlib.Omega.{arith}
 use lib.ListN.{length}
-use Rattle.common.proofs.Matrices.{column-fits}
 use Rattle.aca.specs.Crosses.{matrix}
 use Rattle.aca.proofs.Lines.{residual-is}
 use Rattle.aca.proofs.block.read_row.Statement.{statement}

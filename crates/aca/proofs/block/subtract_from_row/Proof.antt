@@ -1,12 +1,12 @@
 -- `aca::block::subtract_from_row` meets its contract. The loop keeps: the entries before c are subtracted. Assumes nothing.
 use borrow.Author.Needs.{needs}
 use mathlib.Core.Path.{_≡_, refl, sym}
-use Prim.Native.Nat.{_+_, _-_, _*_, _≤_, _<_}
+use Prim.Native.Nat.{_-_, _<_}
 use native.Mathlib.Omega.{arith}
 use lib.Ieee.{nan}
 use lib.ListN.{length, getD}
-use Rattle.common.specs.Floats.{times, minus}
-use Rattle.aca.specs.Crosses.{matrix, scaled}
+use Rattle.common.specs.Floats.{minus}
+use Rattle.aca.specs.Crosses.{matrix}
 use Rattle.common.proofs.Fill.{Filling, filling-none, changing-front, filling-whole}
 use lib.Arith.{digits-lt}
 use Rattle.aca.proofs.block.subtract_from_row.Statement.{statement}

@@ -1,11 +1,8 @@
 -- `aca::run::aca_number` meets its contract: each return by the tests that led there. Assumes nothing.
 use borrow.Author.Needs.{needs}
-use mathlib.Core.Path.{_≡_, refl, sym, _∙_}
-use Prim.Native.Nat.{_*_, _≤_, min}
-use native.Mathlib.Nat.{mul-le-mul, min-le-left}
-use native.Mathlib.Omega.{arith}
-use borrow.Author.Tests.{eq-eqb, ne-eqb, le-leb, lt-leb}
-use Rattle.aca.specs.Runs.{fits, acaNumber}
+use mathlib.Core.Path.{sym, _∙_}
+use borrow.Author.Tests.{le-leb, lt-leb}
+use Rattle.aca.specs.Runs.{acaNumber}
 use Rattle.aca.proofs.run.aca_number.Statement.{statement}
 use Rattle.aca.proofs.run.aca_number.Tie as tie
 

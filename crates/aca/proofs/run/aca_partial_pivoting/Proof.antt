@@ -1,6 +1,5 @@
 -- `aca::run::aca_partial_pivoting` meets its contract. Assumes nothing.
 use borrow.Author.Needs.{needs}
-use Rattle.aca.specs.Runs.{memory}
 use Rattle.aca.proofs.Answers.{refused, begun, finished}
 use Rattle.aca.proofs.run.aca_partial_pivoting.Statement.{statement}
 use Rattle.aca.proofs.run.aca_partial_pivoting.Tie as tie

@@ -1,11 +1,10 @@
 -- `aca::run::fits` meets its contract: each return by the tests that led there. Assumes nothing.
 use borrow.Author.Needs.{needs}
-use mathlib.Core.Path.{_≡_, refl, sym, _∙_}
-use Prim.Native.Nat.{_*_, _≤_, min}
+use Prim.Native.Nat.{_≤_}
 use native.Mathlib.Nat.{mul-le-mul, min-le-left}
 use native.Mathlib.Omega.{arith}
-use borrow.Author.Tests.{eq-eqb, ne-eqb, le-leb, lt-leb}
-use Rattle.aca.specs.Runs.{fits, acaNumber}
+use borrow.Author.Tests.{eq-eqb, ne-eqb}
+use Rattle.aca.specs.Runs.{fits}
 use Rattle.aca.proofs.run.fits.Statement.{statement}
 use Rattle.aca.proofs.run.fits.Tie as tie
 

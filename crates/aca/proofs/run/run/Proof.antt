@@ -1,11 +1,11 @@
 -- `aca::run::run` meets its contract. The loop keeps: what is left of the run, from where the memory stands, is the whole run. Assumes nothing.
 use borrow.Author.Needs.{needs}
-use mathlib.Core.Path.{_≡_, refl, sym, ap, _∙_}
-use Prim.Native.Nat.{_-_, _<_, _≤_}
+use mathlib.Core.Path.{_≡_, refl, _∙_}
+use Prim.Native.Nat.{_-_}
 use native.Mathlib.Omega.{arith}
 use lib.ListN.{length}
 use Rattle.aca.specs.Runs.{memory}
-use Rattle.aca.proofs.Repeated.{Alike, Going, going-none, ends, ready, stops, goes}
+use Rattle.aca.proofs.Repeated.{Going, going-none, ends, ready, stops, goes}
 use Rattle.aca.proofs.run.run.Statement.{statement}
 use Rattle.aca.proofs.run.run.Tie as tie
 

@@ -1,19 +1,14 @@
 -- `aca::terms::cross` meets its contract. The loop keeps: sum has the products of the terms before l. Assumes nothing.
 use borrow.Author.Needs.{needs}
-use mathlib.Core.Path.{_≡_, refl, sym, ap, _∙_}
-use Prim.Native.Nat.{ℕ, _+_, _-_, _*_, _≤_, _<_}
-use native.Mathlib.Nat.{zero-add, one-mul}
+use mathlib.Core.Path.{_≡_, refl, _∙_}
+use Prim.Native.Nat.{_-_, _*_, _≤_}
 use native.Mathlib.Omega.{arith}
-use lib.Arith.{digits-lt}
-use lib.Ieee.{nan}
-use lib.ListN.{length, getD}
-use Rattle.common.specs.Floats.{times, minus, sums}
-use Rattle.common.specs.Lists.{stretch}
-use Rattle.common.proofs.Fill.{fill-all}
+use lib.ListN.{length}
+use Rattle.common.specs.Floats.{times, sums}
 use Rattle.common.proofs.Matrices.{column-fits}
-use Rattle.common.proofs.Sums.{sums-more, adding-none, adding-next, adding-all}
-use Rattle.aca.specs.Crosses.{matrix, inner, entry, norm, cross}
-use Rattle.aca.proofs.Lines.{column-in, whole-in, dot-line, dot-whole}
+use Rattle.common.proofs.Sums.{sums-more}
+use Rattle.aca.specs.Crosses.{matrix, inner, entry, cross}
+use Rattle.aca.proofs.Lines.{column-in, whole-in, dot-line}
 use Rattle.aca.proofs.terms.cross.Statement.{statement}
 use Rattle.aca.proofs.terms.cross.Tie as tie
 

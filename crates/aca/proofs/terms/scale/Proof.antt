@@ -1,12 +1,11 @@
 -- `aca::terms::scale` meets its contract. The loop keeps: the entries before c are scaled. Assumes nothing.
 use borrow.Author.Needs.{needs}
 use mathlib.Core.Path.{_≡_, refl, sym}
-use Prim.Native.Nat.{_+_, _-_, _*_, _≤_, _<_}
-use native.Mathlib.Omega.{arith}
+use Prim.Native.Nat.{_-_}
 use lib.Ieee.{nan}
 use lib.ListN.{length, getD}
-use Rattle.common.specs.Floats.{times, minus}
-use Rattle.aca.specs.Crosses.{matrix, scaled}
+use Rattle.common.specs.Floats.{times}
+use Rattle.aca.specs.Crosses.{scaled}
 use Rattle.common.proofs.Fill.{Filling, filling-none, changing-front, filling-whole}
 use Rattle.aca.proofs.terms.scale.Statement.{statement}
 use Rattle.aca.proofs.terms.scale.Tie as tie

@@ -1,19 +1,17 @@
 -- `aca::terms::sum_terms` meets its contract. The loop keeps: each entry has the sum of its first l terms. Assumes nothing.
 use borrow.Author.Needs.{needs}
-use mathlib.Core.Path.{_≡_, refl, sym, ap, _∙_}
+use mathlib.Core.Path.{_≡_, refl, sym, _∙_}
 use Prim.Native.Nat.{ℕ, _+_, _-_, _*_, _≤_, _<_}
-use native.Mathlib.Nat.{zero-add, one-mul}
 use native.Mathlib.Omega.{arith}
 use lib.Arith.{digits-lt}
-use lib.Ieee.{Float, nan}
-use lib.ListN.{length, getD}
-use Rattle.common.specs.Floats.{times, minus, sums}
+use lib.Ieee.{Float}
+use lib.ListN.{length}
+use Rattle.common.specs.Floats.{times, sums}
 use Rattle.common.specs.Lists.{stretch}
 use Rattle.common.proofs.Fill.{fill-all}
 use Rattle.common.proofs.Matrices.{column-fits}
-use Rattle.common.proofs.Sums.{sums-more, adding-none, adding-next, adding-all}
-use Rattle.aca.specs.Crosses.{matrix, inner, entry, norm, cross}
-use Rattle.aca.proofs.Lines.{column-in, whole-in, dot-line, dot-whole}
+use Rattle.common.proofs.Sums.{adding-none, adding-next, adding-all}
+use Rattle.aca.specs.Crosses.{matrix}
 use Rattle.aca.proofs.terms.sum_terms.Statement.{statement}
 use Rattle.aca.proofs.terms.sum_terms.Tie as tie
 

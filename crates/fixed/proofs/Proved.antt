@@ -1,0 +1,46 @@
+-- The fixed results hold: each is computed from the definitions. Assumes nothing.
+use mathlib.Core.Path.{refl}
+use lib.Count.{trailingZeros}
+use lib.Ieee.{add, sub, mul, div, neg, lt, le, ofBits, ofFields, ofInt, odd, units, round, sum, size as digits, span, climb}
+use Rattle.common.specs.Digits.{number, digit}
+use Rattle.common.specs.Floats.{sums}
+use Rattle.common.specs.Matrices.{columnMajor}
+use Rattle.common.specs.Refusals.{left}
+use Rattle.common.specs.Tests.{each, those, count}
+use Rattle.turn.specs.Order.{factorial, skip, unskip, axis, place, largest, order, sorted}
+use Rattle.turn.specs.Vectors.{index, case, atMost, near, isReference, references, entry, farReference, reference}
+use Rattle.turn.specs.Turned.{reversed, negative, axisOf, placeOf, turnedIndex, turned, returnedIndex, returned}
+use Rattle.turn.specs.Tables.{tableNumber, tableCall}
+use Rattle.turn.specs.LookUps.{lookUpNumber, entryOf, lookUp}
+use Rattle.chebyshev.specs.Polynomials.{T, T′, polynomialsNumber, polynomialsCall}
+use Rattle.transfer.specs.Tensor.{passed, along, ends, transferNumber, transferred, transferCall}
+use Rattle.aca.specs.Argmax.{size, best, argmax, counts, isMask, argmaxNumber, argmaxCall}
+use Rattle.aca.specs.Crosses.{residual, scaled, unread, rowRead, columnRead, inner, norm, cross, grown, judged, stored, accepted, tried, step}
+use Rattle.aca.specs.Cutoff.{squares, firstBelow, cutoff, cutoffNumber, cutoffCall}
+use Rattle.aca.specs.Runs.{after, run, report, laid, fits, acaNumber, approximation, acaCall}
+use Rattle.fixed.specs.Results.{Fixed}
+
+pub fixed : Fixed
+unfolding number digit sums columnMajor left each those count factorial skip unskip axis place largest order sorted index case atMost near isReference references entry farReference reference reversed negative axisOf placeOf turnedIndex turned returnedIndex returned tableNumber tableCall lookUpNumber entryOf lookUp T T′ polynomialsNumber polynomialsCall passed along ends transferNumber transferred transferCall size best argmax counts isMask argmaxNumber argmaxCall residual scaled unread rowRead columnRead inner norm cross grown judged stored accepted tried step squares firstBelow cutoff cutoffNumber cutoffCall after run report laid fits acaNumber approximation acaCall trailingZeros add sub mul div neg lt le ofBits ofFields ofInt odd units round sum digits span climb
+fixed =
+    record {
+      vector-158 = refl;
+      vector-0 = refl;
+      vector-48 = refl;
+      vector-30 = refl;
+      table = λ i. refl;
+      inverse = λ i. refl;
+      polynomials = λ x. refl;
+      m2m = λ a b c d x. refl;
+      l2l = λ a b c d x. refl;
+      argmax-all = refl;
+      argmax-masked = refl;
+      cutoff-half = refl;
+      cutoff-three-quarters = refl;
+      cutoff-two = refl;
+      cutoff-ones = refl;
+      cutoff-zeros = refl;
+      cross-1 = λ x i. refl;
+      cross-half = λ x i. refl;
+      cross-unit = λ x i. refl;
+    }

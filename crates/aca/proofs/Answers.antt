@@ -16,7 +16,7 @@ use Rattle.common.proofs.Limits.{left-done, left-refused}
 use Rattle.aca.specs.Argmax.{counts}
 use Rattle.aca.specs.Crosses.{unread}
 use Rattle.aca.specs.Runs.{run, begin, report, Memory, laid, blockOf, fits, acaNumber, start, approximation, answered, call, acaCall}
-use Rattle.aca.specs.Standing.{Marks, Begun}
+use Rattle.aca.specs.Standing.{Marks, Begun, ran, Ran}
 use Rattle.aca.specs.declared.Report.{Report}
 use Rattle.aca.specs.declared.Approximation.the-variants.{Refused, Done}
 
@@ -102,12 +102,10 @@ module _ (m n : ℕ) (a : List Float) (epsilon : Float) (t : Memory) (number : �
           columns-marked = none-read;
         }
 
-    pub finished : (r : Report) (t' : Memory) →
-        r ≡ report (run (length (t .«row-list»)) (blockOf (length (t .column)) (length (t .row)) a) (times epsilon epsilon) begin (start t)) →
-        t' ≡ laid (run (length (t .«row-list»)) (blockOf (length (t .column)) (length (t .row)) a) (times epsilon epsilon) begin (start t) .found) t →
-        call (Done r) t' ≡ acaCall m n a epsilon t
+    pub finished : (r : Report) (t' : Memory) → Ran (ran a (times epsilon epsilon) t) t r t' → call (Done r) t' ≡ acaCall m n a epsilon t
     unfolding acaCall approximation
-    finished r t' re te =
-        let r-is : r ≡ report (run (min m n) (blockOf m n a) (times epsilon epsilon) begin (start t)) = rw (f .rows-long, f .column-long, f .row-long) at re in
-        let t-is : t' ≡ laid (run (min m n) (blockOf m n a) (times epsilon epsilon) begin (start t) .found) t = rw (f .rows-long, f .column-long, f .row-long) at te in
-        rw (← e, z, left-done 0 (laid (run (min m n) (blockOf m n a) (times epsilon epsilon) begin (start t) .found) t) t refl, r-is, t-is)
+    finished r t' h =
+        let e' = run (min m n) (blockOf m n a) (times epsilon epsilon) begin (start t) in
+        let same : ran a (times epsilon epsilon) t ≡ e' = rw (f .rows-long, f .column-long, f .row-long) in
+        let whole : Ran e' t r t' = rw same at h in
+        rw (← e, z, left-done 0 (laid (e' .found) t) t refl, whole .report-is, whole .memory-is)

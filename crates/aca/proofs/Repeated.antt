@@ -12,9 +12,9 @@ use Rattle.common.proofs.Cases.{by-bool}
 use Rattle.common.proofs.Fill.{length-tabulate}
 use Rattle.common.proofs.Matrices.{next-column, column-fits}
 use Rattle.aca.specs.Argmax.{size, argmax}
-use Rattle.aca.specs.Crosses.{Block, Found, residual, scaled, unread, rowRead, columnRead, norm, cross, grown, tiny₆₄, judged, Outcome, stored, accepted, tried, step}
+use Rattle.aca.specs.Crosses.{usedUp, Block, Found, residual, scaled, unread, rowRead, columnRead, norm, cross, grown, tiny₆₄, judged, Outcome, stored, accepted, tried, step}
 use Rattle.aca.specs.Runs.{Finish, finish, after, run, begin, reported, report, Memory, laid, blockOf, start}
-use Rattle.aca.specs.Standing.{standing, Marks, Ready, Stepped, Begun}
+use Rattle.aca.specs.Standing.{standing, Marks, Ready, made, Stepped, Begun, ran, Ran}
 use Rattle.aca.specs.declared.Progress.{Progress}
 use Rattle.aca.specs.declared.Step.{Step}
 use Rattle.aca.specs.declared.Step.the-variants.{More, Stop}
@@ -153,7 +153,7 @@ module _ (samples : List Float) (tolerance : Float) (t₀ : Memory) where
   block = blockOf (length (t₀ .column)) (length (t₀ .row)) samples
 
   abbrev whole : Finish
-  whole = run most block tolerance begin (start t₀)
+  whole = ran samples tolerance t₀
 
   -- what the loop keeps after k steps
   pub record Going (t : Memory) (rows columns : List ℕ) (s : Progress) (k : ℕ) : Type 0 where
@@ -185,14 +185,14 @@ module _ (samples : List Float) (tolerance : Float) (t₀ : Memory) where
 
     module _ (t : Memory) (rows' columns' : List ℕ) (s : Progress) (k : ℕ) (g : Going t rows' columns' s k) where
       -- no step is left
-      pub ends : most ≤ k → (reported 3 s most ≡ report whole) × (t ≡ laid (whole .found) t₀)
+      pub ends : most ≤ k → Ran whole t₀ (reported usedUp s most) t
       unfolding run report
       ends h =
           let none : most - k ≡ 0 = omega arith in
           let all : k ≡ most = omega (arith, g .within) in
-          let last : finish 3 s (standing k t) ≡ whole = rw none at (g .rest) in
+          let last : finish usedUp s (standing k t) ≡ whole = rw none at (g .rest) in
           let read : length (take k (t .«row-list»)) ≡ most = length-take-le k (t .«row-list») (omega (arith, g .alike .rows-same)) ∙ all in
-          rw (← last) (rw read, g .kept)
+          rw (← last) record { report-is = rw read; memory-is = g .kept }
 
       -- a step is
       module _ (l : k < most) where
@@ -218,10 +218,11 @@ module _ (samples : List Float) (tolerance : Float) (t₀ : Memory) where
               columns-marked = g .columns-marked;
             }
 
-        abbrev made : Outcome
-        made = step block tolerance s (standing k t)
+        -- the step that the rule makes next
+        abbrev o : Outcome
+        o = step block tolerance s (standing k t)
 
-        next : after (made .answer) (made .found) (run (most - (k + 1)) block tolerance) ≡ whole
+        next : after (o .answer) (o .found) (run (most - (k + 1)) block tolerance) ≡ whole
         unfolding run
         next = let one : most - k ≡ suc (most - (k + 1)) = omega arith in rw one at (g .rest)
 
@@ -240,42 +241,42 @@ module _ (samples : List Float) (tolerance : Float) (t₀ : Memory) where
         read : length (take k (t .«row-list»)) ≡ k
         read = length-take-le k (t .«row-list») (omega (arith, g .alike .rows-same))
 
-        more : Found-more k (length (t₀ .column)) (length (t₀ .row)) made
+        more : Found-more k (length (t₀ .column)) (length (t₀ .row)) o
         more =
-            subst (λ (i : ℕ). Found-more i (length (t₀ .column)) (length (t₀ .row)) made) (g .term)
+            subst (λ (i : ℕ). Found-more i (length (t₀ .column)) (length (t₀ .row)) o) (g .term)
             (step-more block tolerance s (standing k t) (omega (arith, b .short)) (rw (g .term) terms) (read ∙ sym (g .term)))
 
         module _ (r : Step) (t' : Memory) (rows'' columns'' : List ℕ)
-            (d : Stepped (step (blockOf (length (t .column)) (length (t .row)) samples) tolerance s (standing (s .rank) t)) t r t' rows'' columns'') where
+            (d : Stepped (made samples tolerance s t) t r t' rows'' columns'') where
           -- the step is that of the block's own run
-          done : Stepped made t r t' rows'' columns''
+          done : Stepped o t r t' rows'' columns''
           done =
               let same : blockOf (length (t .column)) (length (t .row)) samples ≡ block = rw (g .alike .column-same, g .alike .row-same) in
               subst (λ (i : ℕ). Stepped (step block tolerance s (standing i t)) t r t' rows'' columns'') (g .term)
               (subst (λ (x : Block). Stepped (step x tolerance s (standing (s .rank) t)) t r t' rows'' columns'') same d)
 
-          over-all : t' ≡ laid (made .found) t₀
+          over-all : t' ≡ laid (o .found) t₀
           over-all =
-              done .memory-is ∙ ap (laid (made .found)) (g .kept)
-              ∙ laid-laid (standing k t) (made .found) t₀ (rw (terms .us-long) (more .us-least)) (rw (terms .vs-long) (more .vs-least))
+              done .memory-is ∙ ap (laid (o .found)) (g .kept)
+              ∙ laid-laid (standing k t) (o .found) t₀ (rw (terms .us-long) (more .us-least)) (rw (terms .vs-long) (more .vs-least))
               (rw read (omega (arith, more .rows-long))) (rw (terms .columns-long) (more .columns-least))
 
-          pub stops : (w : ℕ) (s' : Progress) → r ≡ Stop w s' → (reported w s' (k + 1) ≡ report whole) × (t' ≡ laid (whole .found) t₀)
+          pub stops : (w : ℕ) (s' : Progress) → r ≡ Stop w s' → Ran whole t₀ (reported w s' (k + 1)) t'
           unfolding after report
           stops w s' e =
-              let answer : made .answer ≡ Stop w s' = sym (done .answer-is) ∙ e in
-              let last : finish w s' (made .found) ≡ whole = rw answer at next in
-              rw (← last) (rw (more .rows-long), over-all)
+              let answer : o .answer ≡ Stop w s' = sym (done .answer-is) ∙ e in
+              let last : finish w s' (o .found) ≡ whole = rw answer at next in
+              rw (← last) record { report-is = rw (more .rows-long); memory-is = over-all }
 
           pub goes : (s' : Progress) → r ≡ More s' → Alike t t' → Going t' rows'' columns'' s' (k + 1)
           unfolding after
           goes s' e same =
-              let answer : made .answer ≡ More s' = sym (done .answer-is) ∙ e in
-              let onward : Onward k (length (t₀ .column)) (length (t₀ .row)) (More s') (made .found) = rw answer at (more .onward) in
+              let answer : o .answer ≡ More s' = sym (done .answer-is) ∙ e in
+              let onward : Onward k (length (t₀ .column)) (length (t₀ .row)) (More s') (o .found) = rw answer at (more .onward) in
               let all = alike-both t₀ t t' (g .alike) same in
-              let stands : standing (k + 1) t' ≡ made .found =
-              ap (standing (k + 1)) (done .memory-is) ∙ standing-laid (k + 1) (length (t₀ .column)) (length (t₀ .row)) (made .found) t (onward .2) (more .rows-long)
-              (column-of (made .found) t t' (done .memory-is) ∙ all .column-same) (row-of (made .found) t t' (done .memory-is) ∙ all .row-same) in
+              let stands : standing (k + 1) t' ≡ o .found =
+              ap (standing (k + 1)) (done .memory-is) ∙ standing-laid (k + 1) (length (t₀ .column)) (length (t₀ .row)) (o .found) t (onward .2) (more .rows-long)
+              (column-of (o .found) t t' (done .memory-is) ∙ all .column-same) (row-of (o .found) t t' (done .memory-is) ∙ all .row-same) in
               record {
                 within = omega arith;
                 term = onward .0;

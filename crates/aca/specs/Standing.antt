@@ -2,10 +2,13 @@
 use Prim.Native.Nat.{ℕ, _*_, _<_, _≤_}
 use mathlib.Core.Path.{_≡_}
 use mathlib.Core.List.{List, []}
+use lib.Ieee.{Float}
 use lib.ListN.{length, take}
 use Rattle.aca.specs.Argmax.{counts}
-use Rattle.aca.specs.Crosses.{Found, found, unread, Outcome}
-use Rattle.aca.specs.Runs.{Memory, laid}
+use Rattle.aca.specs.Crosses.{Found, found, unread, Outcome, step}
+use Rattle.aca.specs.Runs.{Finish, run, begin, report, Memory, laid, blockOf, start}
+use Rattle.aca.specs.declared.Progress.{Progress}
+use Rattle.aca.specs.declared.Report.{Report}
 use Rattle.aca.specs.declared.Step.{Step}
 
 -- what has been found after k terms
@@ -35,7 +38,11 @@ pub record Ready (samples : ℕ) (t : Memory) (k i : ℕ) (rows columns : List �
   pub rows-marked : Marks rows (take k (t .«row-list»))
   pub columns-marked : Marks columns (take k (t .«column-list»))
 
--- what a step answers and leaves
+-- the step of the rule from where the memory stands
+abbrev pub made : (samples : List Float) → (tolerance : Float) → Progress → Memory → Outcome
+made a tolerance s t = step (blockOf (length (t .column)) (length (t .row)) a) tolerance s (standing (s .rank) t)
+
+-- a step in memory: it answers what the rule's does, and leaves what that found
 pub record Stepped (o : Outcome) (t : Memory) (answer : Step) (after : Memory) (rows columns : List ℕ) : Type 0 where
   pub answer-is : answer ≡ o .answer
   pub memory-is : after ≡ laid (o .found) t
@@ -49,3 +56,12 @@ pub record Begun (samples : ℕ) (t : Memory) (rows columns : List ℕ) : Type 0
   pub narrow : length (t .«row-list») ≤ length (t .row)
   pub rows-marked : Marks rows []
   pub columns-marked : Marks columns []
+
+-- the run of the rule, of as many steps as the lists have places
+abbrev pub ran : (samples : List Float) → (tolerance : Float) → Memory → Finish
+ran a tolerance t = run (length (t .«row-list»)) (blockOf (length (t .column)) (length (t .row)) a) tolerance begin (start t)
+
+-- a run in memory: it reports what the rule's does, and leaves what that found
+pub record Ran (e : Finish) (t : Memory) (told : Report) (after : Memory) : Type 0 where
+  pub report-is : told ≡ report e
+  pub memory-is : after ≡ laid (e .found) t

@@ -6,9 +6,9 @@ ghost use lib.ListN.{length, getD, set};
 ghost use Rattle.common.specs.Floats.{over, one₆₄};
 ghost use Rattle.common.specs.Lists.{stretch};
 ghost use Rattle.aca.specs.Argmax.{argmax, counts};
-ghost use Rattle.aca.specs.Crosses.{matrix, residual, scaled, norm as normOf, cross as crossOf, grown, judged, step};
-ghost use Rattle.aca.specs.Runs.{memory, blockOf};
-ghost use Rattle.aca.specs.Standing.{standing, Ready, Stepped};
+ghost use Rattle.aca.specs.Crosses.{matrix, residual, scaled, norm as normOf, cross as crossOf, grown, judged};
+ghost use Rattle.aca.specs.Runs.{memory};
+ghost use Rattle.aca.specs.Standing.{Ready, made, Stepped};
 use crate::Progress;
 use crate::Step;
 use crate::argmax::pick;
@@ -171,7 +171,7 @@ pub(crate) fn advance(
 ) -> Step
     requires { ⌜ Ready (length (now samples)) (memory (now u) (now v) (now «row_list») (now «column_list») (now row) (now column)) (s .rank) (s .next) (now «row_flags») (now «column_flags») ⌝ }
     requires { ⌜ s .rank < 1024 ⌝ }
-    ensures { λ r. ⌜ Stepped (step (blockOf (length (now (column .entry))) (length (now (row .entry))) (now (samples .entry))) tolerance s (standing (s .rank) (memory (now (u .entry)) (now (v .entry)) (now («row_list» .entry)) (now («column_list» .entry)) (now (row .entry)) (now (column .entry)))))
+    ensures { λ r. ⌜ Stepped (made (now (samples .entry)) tolerance s (memory (now (u .entry)) (now (v .entry)) (now («row_list» .entry)) (now («column_list» .entry)) (now (row .entry)) (now (column .entry))))
         (memory (now (u .entry)) (now (v .entry)) (now («row_list» .entry)) (now («column_list» .entry)) (now (row .entry)) (now (column .entry)))
         r (memory (now (u .exit)) (now (v .exit)) (now («row_list» .exit)) (now («column_list» .exit)) (now (row .exit)) (now (column .exit))) (now («row_flags» .exit)) (now («column_flags» .exit)) ⌝ }
 {

@@ -2,8 +2,8 @@
 ghost use mathlib.Core.Path.{_≡_};
 ghost use Prim.Native.Nat.{_≤_, min};
 ghost use lib.ListN.{length};
-ghost use Rattle.aca.specs.Runs.{reported, report as reportOf, begin, run as runOf, start, memory, laid, blockOf, fits as fitsOf, acaNumber, call, acaCall};
-ghost use Rattle.aca.specs.Standing.{Begun};
+ghost use Rattle.aca.specs.Runs.{reported, memory, fits as fitsOf, acaNumber, call, acaCall};
+ghost use Rattle.aca.specs.Standing.{Begun, ran, Ran};
 use crate::Approximation;
 use crate::Progress;
 use crate::Report;
@@ -38,10 +38,9 @@ fn run(
     column: &mut [f64],
 ) -> Report
     requires { ⌜ Begun (length (now samples)) (memory (now u) (now v) (now «row_list») (now «column_list») (now row) (now column)) (now «row_flags») (now «column_flags») ⌝ }
-    ensures { λ r. ⌜ r ≡ reportOf (runOf (length (now («row_list» .entry))) (blockOf (length (now (column .entry))) (length (now (row .entry))) (now (samples .entry))) tolerance begin (start (memory (now (u .entry)) (now (v .entry)) (now («row_list» .entry)) (now («column_list» .entry)) (now (row .entry)) (now (column .entry))))) ⌝ }
-    ensures { λ _. ⌜ memory (now (u .exit)) (now (v .exit)) (now («row_list» .exit)) (now («column_list» .exit)) (now (row .exit)) (now (column .exit))
-        ≡ laid (runOf (length (now («row_list» .entry))) (blockOf (length (now (column .entry))) (length (now (row .entry))) (now (samples .entry))) tolerance begin (start (memory (now (u .entry)) (now (v .entry)) (now («row_list» .entry)) (now («column_list» .entry)) (now (row .entry)) (now (column .entry)))) .found)
-        (memory (now (u .entry)) (now (v .entry)) (now («row_list» .entry)) (now («column_list» .entry)) (now (row .entry)) (now (column .entry))) ⌝ }
+    ensures { λ r. ⌜ Ran (ran (now (samples .entry)) tolerance (memory (now (u .entry)) (now (v .entry)) (now («row_list» .entry)) (now («column_list» .entry)) (now (row .entry)) (now (column .entry))))
+        (memory (now (u .entry)) (now (v .entry)) (now («row_list» .entry)) (now («column_list» .entry)) (now (row .entry)) (now (column .entry)))
+        r (memory (now (u .exit)) (now (v .exit)) (now («row_list» .exit)) (now («column_list» .exit)) (now (row .exit)) (now (column .exit))) ⌝ }
 {
     let most = row_list.len();
     let mut s = Progress {

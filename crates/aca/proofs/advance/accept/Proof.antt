@@ -47,9 +47,10 @@ same-length-5 c = search needs
 
 returns : tie.Need-returns
 returns c =
+    let s = c .before .before .before .before .before .before in
     let q = c .before .before .before .before .before .before .before .before .before .before .before .before .before .before .before .before .before .before .before .before .before .before .before .before .before .take-column in
     let e = q .ensures in
-    (c .judge .ensures ∙ rw (c .before .grow .ensures, c .before .before .before .before .before .before .before .before .before .before .before .before .before .before .before .before .norm .ensures, c .before .before .before .before .before .before .before .before .before .before .before .cross .ensures, e .0), (e .1 .0, (e .1 .1 .0, (e .1 .1 .1 .0, (e .1 .1 .1 .1, (rw (q .kept .1 .1 .1 .1 .1 .1 .1 .1 .1 .0) at (c .before .before .before .before .before .before .store .ensures .0), rw (q .kept .1 .1 .1 .1 .1 .1 .1 .1 .0) at (c .before .before .before .before .before .before .store .ensures .1)))))))
+    (c .judge .ensures ∙ rw (c .before .grow .ensures, c .before .before .before .before .before .before .before .before .before .before .before .before .before .before .before .before .norm .ensures, c .before .before .before .before .before .before .before .before .before .before .before .cross .ensures, e .0), (e .1 .0, (e .1 .1 .0, (e .1 .1 .1 .0, (e .1 .1 .1 .1, (rw (q .kept .1 .1 .1 .1 .1 .1 .1 .1 .1 .0) at (s .store .ensures .0), rw (q .kept .1 .1 .1 .1 .1 .1 .1 .1 .0) at (s .store .ensures .1)))))))
 
 pub accept-spec : {M : Type 1} → statement M
 accept-spec =

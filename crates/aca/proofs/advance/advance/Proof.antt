@@ -13,8 +13,9 @@ pivot c = pivot-in (c .before .before .before .before .before .before .before .b
 
 take-row-requires : tie.Need-take-row-requires
 take-row-requires c κs =
-    let r = c .before .before .before .before .before .before .before .before .before .before .before .before .before .pre .0 in
-    ((r .row-in, r .sizes .tall, r .sizes .wide, r .term), (r .sizes .block, omega (arith, left-room (c .before .before .before .before .before .before .before .before .before .before .before .before .before .args .samples .now) (c .before .before .before .before .before .before .before .before .before .before .before .before .before .args .tolerance) (c .before .before .before .before .before .before .before .before .before .before .before .before .before .args .s) _ _ _ _ _ _ _ _ (c .before .before .before .before .before .before .before .before .before .before .before .before .before .pre .0)), omega (arith, right-room (c .before .before .before .before .before .before .before .before .before .before .before .before .before .args .samples .now) (c .before .before .before .before .before .before .before .before .before .before .before .before .before .args .tolerance) (c .before .before .before .before .before .before .before .before .before .before .before .before .before .args .s) _ _ _ _ _ _ _ _ (c .before .before .before .before .before .before .before .before .before .before .before .before .before .pre .0))))
+    let s = c .before .before .before .before .before .before .before .before .before .before .before .before .before in
+    let r = s .pre .0 in
+    ((r .row-in, r .sizes .tall, r .sizes .wide, r .term), (r .sizes .block, omega (arith, left-room (s .args .samples .now) (s .args .tolerance) (s .args .s) _ _ _ _ _ _ _ _ (s .pre .0)), omega (arith, right-room (s .args .samples .now) (s .args .tolerance) (s .args .s) _ _ _ _ _ _ _ _ (s .pre .0))))
 
 mul-size-of : tie.Need-mul-size-of
 mul-size-of c =
@@ -22,7 +23,8 @@ mul-size-of c =
 
 slice-read-size-of : tie.Need-slice-read-size-of
 slice-read-size-of c =
-    omega (arith, pivot (c .before .before .before .before .before), c .before .before .before .before .before .take-row .kept .1 .1 .1 .1 .1 .1 .1 .1 .1 .0)
+    let s = c .before .before .before .before .before in
+    omega (arith, pivot (s), s .take-row .kept .1 .1 .1 .1 .1 .1 .1 .1 .1 .0)
 
 size-of-requires : tie.Need-size-of-requires
 size-of-requires c κs = search needs
@@ -41,15 +43,18 @@ same-length-4 c = search needs
 
 returns : tie.Need-returns
 returns c =
+    let s = c .before .before .before .before .before .before .before .before .before .before .before .before .before .before .before .before .before .before .before .before .before in
     let q = c .before .before .before .before .before .before .before .take-row .ensures in
-    rw (q .1 .1 .0, q .1 .1 .1) (stopped (c .before .before .before .before .before .before .before .before .before .before .before .before .before .before .before .before .before .before .before .before .before .args .samples .now) (c .before .before .before .before .before .before .before .before .before .before .before .before .before .before .before .before .before .before .before .before .before .args .tolerance) (c .before .before .before .before .before .before .before .before .before .before .before .before .before .before .before .before .before .before .before .before .before .args .s) _ _ _ _ _ _ _ _ (c .before .before .before .before .before .before .before .before .before .before .before .before .before .before .before .before .before .before .before .before .before .pre .0) _ _ (q .1 .0) (q .0) (rw (c .before .size-of .ensures) at (c .if1 .taken)))
+    rw (q .1 .1 .0, q .1 .1 .1) (stopped (s .args .samples .now) (s .args .tolerance) (s .args .s) _ _ _ _ _ _ _ _ (s .pre .0) _ _ (q .1 .0) (q .0) (rw (c .before .size-of .ensures) at (c .if1 .taken)))
 
 accept-requires : tie.Need-accept-requires
 accept-requires c κs =
-    let s = c .before .before .before .before .before .before .before .before .before .before .before .before .before .before .before .before .before .before .before .before .before .before .before .before .before .before .before .before in
+    let t = c .before .before .before .before .before .before .before .before .before .before .before .before .before .before .before .before .before .before .before .before .before .before .before .before .before .before .before .before in
+    let o = c .before .before .before .before .before .before .before .before .before .before .before .before .before .before in
+    let s = t in
     let r = s .pre .0 in
     let some : s .args .s .rank < length (s .args .column-list .now) = omega (arith, r .term, r .sizes .lists) in
-    rw (c .before .before .before .before .before .before .before .before .before .before .before .before .before .before .take-row .kept .1 .1 .1 .1 .1 .1 .1 .1 .1 .0) ((s .pre .1, pivot (c .before .before .before .before .before .before .before .before .before .before .before .before .before .before), r .sizes .wide, r .sizes .tall, some), (r .sizes .block, left-room (c .before .before .before .before .before .before .before .before .before .before .before .before .before .before .before .before .before .before .before .before .before .before .before .before .before .before .before .before .args .samples .now) (c .before .before .before .before .before .before .before .before .before .before .before .before .before .before .before .before .before .before .before .before .before .before .before .before .before .before .before .before .args .tolerance) (c .before .before .before .before .before .before .before .before .before .before .before .before .before .before .before .before .before .before .before .before .before .before .before .before .before .before .before .before .args .s) _ _ _ _ _ _ _ _ (c .before .before .before .before .before .before .before .before .before .before .before .before .before .before .before .before .before .before .before .before .before .before .before .before .before .before .before .before .pre .0), right-room (c .before .before .before .before .before .before .before .before .before .before .before .before .before .before .before .before .before .before .before .before .before .before .before .before .before .before .before .before .args .samples .now) (c .before .before .before .before .before .before .before .before .before .before .before .before .before .before .before .before .before .before .before .before .before .before .before .before .before .before .before .before .args .tolerance) (c .before .before .before .before .before .before .before .before .before .before .before .before .before .before .before .before .before .before .before .before .before .before .before .before .before .before .before .before .args .s) _ _ _ _ _ _ _ _ (c .before .before .before .before .before .before .before .before .before .before .before .before .before .before .before .before .before .before .before .before .before .before .before .before .before .before .before .before .pre .0)))
+    rw (o .take-row .kept .1 .1 .1 .1 .1 .1 .1 .1 .1 .0) ((s .pre .1, pivot (o), r .sizes .wide, r .sizes .tall, some), (r .sizes .block, left-room (t .args .samples .now) (t .args .tolerance) (t .args .s) _ _ _ _ _ _ _ _ (t .pre .0), right-room (t .args .samples .now) (t .args .tolerance) (t .args .s) _ _ _ _ _ _ _ _ (t .pre .0)))
 
 same-length-5 : tie.Need-same-length-5
 same-length-5 c = search needs
@@ -71,10 +76,11 @@ same-length-10 c = search needs
 
 returns-2 : tie.Need-returns-2
 returns-2 c =
+    let s = c .before .before .before .before .before .before .before .before .before .before .before .before .before .before .before .before .before .before .before .before .before .before .before .before .before .before .before .before .before .before .before .before .before .before .before .before .before .before .before in
     let q = c .before .before .before .before .before .before .before .before .before .before .before .before .before .before .before .before .before .before .before .before .before .before .before .before .before .take-row in
     let e = q .ensures in
     let g = c .before .before .before .before .before .before .before .before .before .before .accept .ensures in
-    rw (e .1 .1 .0, e .1 .1 .1) (went-on (c .before .before .before .before .before .before .before .before .before .before .before .before .before .before .before .before .before .before .before .before .before .before .before .before .before .before .before .before .before .before .before .before .before .before .before .before .before .before .before .args .samples .now) (c .before .before .before .before .before .before .before .before .before .before .before .before .before .before .before .before .before .before .before .before .before .before .before .before .before .before .before .before .before .before .before .before .before .before .before .before .before .before .before .args .tolerance) (c .before .before .before .before .before .before .before .before .before .before .before .before .before .before .before .before .before .before .before .before .before .before .before .before .before .before .before .before .before .before .before .before .before .before .before .before .before .before .before .args .s) _ _ _ _ _ _ _ _ (c .before .before .before .before .before .before .before .before .before .before .before .before .before .before .before .before .before .before .before .before .before .before .before .before .before .before .before .before .before .before .before .before .before .before .before .before .before .before .before .pre .0) _ _ (e .1 .0) (e .0) _ (rw (q .kept .1 .1 .1 .1 .1 .1 .1 .1 .1 .0) at (g .1 .1 .0)) _ _ _ _ _ _ (rw (c .before .before .before .before .before .before .before .before .before .before .before .before .before .before .before .before .before .before .before .size-of .ensures) at (c .before .before .before .before .before .before .before .before .before .before .before .before .before .before .before .before .before .before .if1 .left)) (g .1 .0) (rw (e .1 .1 .0) at (g .0)) (g .1 .1 .1 .0) (g .1 .1 .1 .1 .0) (g .1 .1 .1 .1 .1 .0) (rw (q .kept .1 .1 .1 .1 .1 .1 .1 .1 .1 .0) at (g .1 .1 .1 .1 .1 .1)))
+    rw (e .1 .1 .0, e .1 .1 .1) (went-on (s .args .samples .now) (s .args .tolerance) (s .args .s) _ _ _ _ _ _ _ _ (s .pre .0) _ _ (e .1 .0) (e .0) _ (rw (q .kept .1 .1 .1 .1 .1 .1 .1 .1 .1 .0) at (g .1 .1 .0)) _ _ _ _ _ _ (rw (c .before .before .before .before .before .before .before .before .before .before .before .before .before .before .before .before .before .before .before .size-of .ensures) at (c .before .before .before .before .before .before .before .before .before .before .before .before .before .before .before .before .before .before .if1 .left)) (g .1 .0) (rw (e .1 .1 .0) at (g .0)) (g .1 .1 .1 .0) (g .1 .1 .1 .1 .0) (g .1 .1 .1 .1 .1 .0) (rw (q .kept .1 .1 .1 .1 .1 .1 .1 .1 .1 .0) at (g .1 .1 .1 .1 .1 .1)))
 
 pub advance-spec : {M : Type 1} → statement M
 advance-spec =

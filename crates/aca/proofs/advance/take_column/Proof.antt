@@ -32,7 +32,8 @@ same-length-3 c = search needs
 
 returns : tie.Need-returns
 returns c =
-    (c .pick .ensures, (c .before .before .before .before .before .before .before .before .before .before .before .before .before .before .scale .ensures, (c .before .before .before .before .before .before .before .before .before .before .read-column .ensures, (c .before .before .before .before .before .mark .ensures .0, c .before .before .before .before .before .mark .ensures .1))))
+    let s = c .before .before .before .before .before in
+    (c .pick .ensures, (c .before .before .before .before .before .before .before .before .before .before .before .before .before .before .scale .ensures, (c .before .before .before .before .before .before .before .before .before .before .read-column .ensures, (s .mark .ensures .0, s .mark .ensures .1))))
 
 pub take-column-spec : {M : Type 1} → statement M
 take-column-spec =

@@ -20,7 +20,8 @@ same-length-2 c = search needs
 
 returns : tie.Need-returns
 returns c =
-    (c .pick .ensures, (c .before .before .before .before .before .before .before .before .before .before .read-row .ensures, (c .before .before .before .before .before .mark .ensures .0, c .before .before .before .before .before .mark .ensures .1)))
+    let s = c .before .before .before .before .before in
+    (c .pick .ensures, (c .before .before .before .before .before .before .before .before .before .before .read-row .ensures, (s .mark .ensures .0, s .mark .ensures .1)))
 
 pub take-row-spec : {M : Type 1} → statement M
 take-row-spec =

@@ -23,9 +23,10 @@ same-length c = search needs
 
 returns : tie.Need-returns
 returns c =
+    let s = c .before .before .before .before .before .before in
     let a = c .before .before .before .before .before .before .before .before .before .before .before .before .args in
     let m = length (a .column .now) in
-    residual-is m (a .k) (λ i. matrix m (a .samples .now) i (a .j)) (matrix m (a .u .now)) (matrix (a .columns) (a .v .now) (a .j)) _ _ (c .before .before .before .before .before .before .sum-terms .ensures) (rw (c .before .before .before .before .before .before .sum-terms .kept .1 .1 .1 .1 .1 .0) at (c .before .before .subtract-from-column .ensures))
+    residual-is m (a .k) (λ i. matrix m (a .samples .now) i (a .j)) (matrix m (a .u .now)) (matrix (a .columns) (a .v .now) (a .j)) _ _ (s .sum-terms .ensures) (rw (s .sum-terms .kept .1 .1 .1 .1 .1 .0) at (c .before .before .subtract-from-column .ensures))
 
 pub read-column-spec : {M : Type 1} → statement M
 read-column-spec =

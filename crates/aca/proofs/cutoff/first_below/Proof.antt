@@ -38,20 +38,26 @@ loop-less c = search needs
 
 loop-again : tie.Need-loop-again Inv-loop μ-loop
 loop-again c =
-    let a = c .before .before .before .before .before .args in
-    let l = c .before .before .before .before .loop in
-    let sum = squares-more (c .before .before .before .before .before .args .values .now) (c .before .before .before .before .loop .i) (c .before .before .before .loop-test .taken) (c .before .before .before .before .loop .inv .0) (c .before .before .before .before .loop .inv .1) in
-    (omega (arith, l .inv .0), sum, first-here (a .bound) (a .values .now) (l .i) (c .before .before .before .loop-test .taken) (l .inv .0) sum (c .if1 .taken))
+    let s = c .before .before .before .before .before in
+    let t = c .before .before .before .before in
+    let o = c .before .before .before in
+    let a = s .args in
+    let l = t .loop in
+    let sum = squares-more (s .args .values .now) (t .loop .i) (o .loop-test .taken) (t .loop .inv .0) (t .loop .inv .1) in
+    (omega (arith, l .inv .0), sum, first-here (a .bound) (a .values .now) (l .i) (o .loop-test .taken) (l .inv .0) sum (c .if1 .taken))
 
 loop-less-2 : tie.Need-loop-less-2 Inv-loop μ-loop
 loop-less-2 c = search needs
 
 loop-again-2 : tie.Need-loop-again-2 Inv-loop μ-loop
 loop-again-2 c =
-    let a = c .before .before .before .before .before .args in
-    let l = c .before .before .before .before .loop in
-    let sum = squares-more (c .before .before .before .before .before .args .values .now) (c .before .before .before .before .loop .i) (c .before .before .before .loop-test .taken) (c .before .before .before .before .loop .inv .0) (c .before .before .before .before .loop .inv .1) in
-    (omega (arith, l .inv .0), sum, first-later (a .bound) (a .values .now) (l .i) (c .before .before .before .loop-test .taken) (l .inv .0) sum (c .if1 .left) (l .inv .2))
+    let s = c .before .before .before .before .before in
+    let t = c .before .before .before .before in
+    let o = c .before .before .before in
+    let a = s .args in
+    let l = t .loop in
+    let sum = squares-more (s .args .values .now) (t .loop .i) (o .loop-test .taken) (t .loop .inv .0) (t .loop .inv .1) in
+    (omega (arith, l .inv .0), sum, first-later (a .bound) (a .values .now) (l .i) (o .loop-test .taken) (l .inv .0) sum (c .if1 .left) (l .inv .2))
 
 returns : tie.Need-returns Inv-loop μ-loop
 returns c =

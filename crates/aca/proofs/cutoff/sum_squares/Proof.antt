@@ -37,7 +37,9 @@ loop-less : tie.Need-loop-less Inv-loop μ-loop
 loop-less c = search needs
 
 loop-again : tie.Need-loop-again Inv-loop μ-loop
-loop-again c = (omega (arith, c .before .before .before .loop .inv .0), squares-more (c .before .before .before .before .args .values .now) (c .before .before .before .loop .i) (c .before .before .loop-test .taken) (c .before .before .before .loop .inv .0) (c .before .before .before .loop .inv .1))
+loop-again c =
+    let s = c .before .before .before in
+    (omega (arith, s .loop .inv .0), squares-more (c .before .before .before .before .args .values .now) (s .loop .i) (c .before .before .loop-test .taken) (s .loop .inv .0) (s .loop .inv .1))
 
 returns : tie.Need-returns Inv-loop μ-loop
 returns c = let none : c .before .loop .i ≡ 0 = omega arith in rw none at (c .before .loop .inv .1)

@@ -30,8 +30,9 @@ mul-dot c =
 
 dot-requires : tie.Need-dot-requires Inv-loop μ-loop
 dot-requires c κs =
+    let s = c .before .before .before .before .before .before in
     let l = c .before .loop in
-    rw (l .inv .0) (column-in _ (c .before .before .before .before .before .before .args .k) (l .l) _ (c .loop-test .taken) (c .before .before .before .before .before .before .pre .0), whole-in _)
+    rw (l .inv .0) (column-in _ (s .args .k) (l .l) _ (c .loop-test .taken) (s .pre .0), whole-in _)
 
 mul-dot-2 : tie.Need-mul-dot-2 Inv-loop μ-loop
 mul-dot-2 c =
@@ -41,8 +42,9 @@ mul-dot-2 c =
 
 dot-requires-2 : tie.Need-dot-requires-2 Inv-loop μ-loop
 dot-requires-2 c κs =
+    let s = c .before .before .before .before .before .before .before in
     let l = c .before .before .loop in
-    rw (l .inv .1) (column-in _ (c .before .before .before .before .before .before .before .args .k) (l .l) _ (c .before .loop-test .taken) (c .before .before .before .before .before .before .before .pre .1), whole-in _)
+    rw (l .inv .1) (column-in _ (s .args .k) (l .l) _ (c .before .loop-test .taken) (s .pre .1), whole-in _)
 
 add-l : tie.Need-add-l Inv-loop μ-loop
 add-l c = search needs

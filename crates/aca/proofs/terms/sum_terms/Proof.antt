@@ -48,15 +48,18 @@ mul-add-scaled c =
 
 mul-add-scaled-2 : tie.Need-mul-add-scaled-2 Inv-loop μ-loop
 mul-add-scaled-2 c =
-    omega (arith, c .before .before .before .before .before .before .before .before .before .good, c .before .before .before .before .before .before .before .before .before .pre .1, factor-in c)
+    let s = c .before .before .before .before .before .before .before .before .before in
+    omega (arith, s .good, s .pre .1, factor-in c)
 
 add-add-scaled : tie.Need-add-add-scaled Inv-loop μ-loop
 add-add-scaled c =
-    omega (arith, c .before .before .before .before .before .before .before .before .before .good, c .before .before .before .before .before .before .before .before .before .pre .1, factor-in c)
+    let s = c .before .before .before .before .before .before .before .before .before in
+    omega (arith, s .good, s .pre .1, factor-in c)
 
 mul-add-scaled-3 : tie.Need-mul-add-scaled-3 Inv-loop μ-loop
 mul-add-scaled-3 c =
-    omega (arith, c .before .before .before .before .before .before .before .before .before .good, c .before .before .before .before .before .before .before .before .before .pre .1, factor-in c)
+    let s = c .before .before .before .before .before .before .before .before .before in
+    omega (arith, s .good, s .pre .1, factor-in c)
 
 shared-slice-read-add-scaled : tie.Need-shared-slice-read-add-scaled Inv-loop μ-loop
 shared-slice-read-add-scaled c =
@@ -75,10 +78,11 @@ loop-less c = search needs
 
 loop-again : tie.Need-loop-again Inv-loop μ-loop
 loop-again c =
+    let s = c .before .before .before .before .before .before .before .before .before in
     let a = c .before .before .before .before .before .before .before .before .before .before .before .before .before .before .args in
     let l = c .before .before .before .before .before .before .loop in
     let n = length (a .line .now) in
-    let fits : 0 + n ≤ length (c .before .before .before .before .before .before .before .before .before .fill-with .last .1 .1 .1 .0) = omega (arith, c .before .before .before .before .before .before .before .before .before .fill-with .kept .1 .1 .1 .0) in
+    let fits : 0 + n ≤ length (s .fill-with .last .1 .1 .1 .0) = omega (arith, s .fill-with .kept .1 .1 .1 .0) in
     (l .inv .0, omega arith, c .before .before .add-scaled .kept .1 .1 .1 .1 .1 .0 ∙ l .inv .2, c .before .before .add-scaled .ensures ∙ adding-next 0 n (λ i s. times (matrix n (a .terms .now) i s) (matrix (a .stride) (a .factors .now) (a .at) s)) _ fits (l .line) (l .l) _ (l .inv .3) (λ i b. refl))
 
 same-length : tie.Need-same-length Inv-loop μ-loop

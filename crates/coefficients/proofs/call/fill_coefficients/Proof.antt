@@ -14,8 +14,9 @@ scale-points-requires c κs = let h = c .before .before .before .before .before 
 
 fill-axes-requires : tie.Need-fill-axes-requires
 fill-axes-requires c κs =
-    let h = c .before .before .before .before .before .before .before .before .before .before .before .before .before .before .before .before .pre in
-    let a = c .before .before .before .before .before .before .before .before .before .before .before .before .before .before .before .before .args in
+    let s = c .before .before .before .before .before .before .before .before .before .before .before .before .before .before .before .before in
+    let h = s .pre in
+    let a = s .args in
     let nodes = nodes-side (a .cell .dimension) (a .cell .order) (a .cell .rows) (h .shape .order-least) (h .shape .dimension-least) in
     let room = axis-side (a .cell .dimension) (a .cell .order ^ a .cell .dimension) (a .cell .rows) (h .shape .dimension-least) in (
       h .shape,
@@ -36,14 +37,16 @@ fill-gradients-requires c κs =
 
 mul-start-values : tie.Need-mul-start-values
 mul-start-values c =
-    let h = c .before .before .before .before .before .before .before .before .before .before .before .before .before .before .before .before .before .before .before .before .before .before .before .before .before .before .before .before .before .before .before .pre in
-    let a = c .before .before .before .before .before .before .before .before .before .before .before .before .before .before .before .before .before .before .before .before .before .before .before .before .before .before .before .before .before .before .before .args in
+    let s = c .before .before .before .before .before .before .before .before .before .before .before .before .before .before .before .before .before .before .before .before .before .before .before .before .before .before .before .before .before .before .before in
+    let h = s .pre in
+    let a = s .args in
     omega (arith, mul-le-mul {n₁ = a .cell .order} {m₁ = a .cell .rows} {n₂ = 16} {m₂ = 4096} (h .shape .order-most) (h .few))
 
 start-values-requires : tie.Need-start-values-requires
 start-values-requires c κs =
-    let h = c .before .before .before .before .before .before .before .before .before .before .before .before .before .before .before .before .before .before .before .before .before .before .before .before .before .before .before .before .before .before .before .before .pre in
-    let a = c .before .before .before .before .before .before .before .before .before .before .before .before .before .before .before .before .before .before .before .before .before .before .before .before .before .before .before .before .before .before .before .before .args in
+    let s = c .before .before .before .before .before .before .before .before .before .before .before .before .before .before .before .before .before .before .before .before .before .before .before .before .before .before .before .before .before .before .before .before in
+    let h = s .pre in
+    let a = s .args in
     rw (c .before .before .before .before .before .before .before .before .before .before .before .before .before .before .before .fill-axes .kept .1 .1 .1 .1 .1 .1 .0 ∙ h .factors) (axis-side (a .cell .dimension) (a .cell .order) (a .cell .rows) (h .shape .dimension-least))
 
 fill-values-requires : tie.Need-fill-values-requires
@@ -69,8 +72,9 @@ same-length-5 c = search needs
 
 returns : tie.Need-returns
 returns c =
-    let h = c .before .before .before .before .before .before .before .before .before .before .before .before .before .before .before .before .before .before .before .before .before .before .before .before .before .before .before .before .before .before .before .before .before .before .before .before .before .before .before .before .pre in
-    let a = c .before .before .before .before .before .before .before .before .before .before .before .before .before .before .before .before .before .before .before .before .before .before .before .before .before .before .before .before .before .before .before .before .before .before .before .before .before .before .before .before .args in
+    let s = c .before .before .before .before .before .before .before .before .before .before .before .before .before .before .before .before .before .before .before .before .before .before .before .before .before .before .before .before .before .before .before .before .before .before .before .before .before .before .before .before in
+    let h = s .pre in
+    let a = s .args in
     let call = c .before .before .before .before .before .before .before .before .before .before .before .before .before .before .before .before .before .before .before .before .before .before .before .fill-axes in
     memory-right (a .cell .dimension) (a .cell .order) (a .cell .rows) (a .cell .length) (a .with-gradients) (a .centre .now) (a .node-polynomials .now) (a .points .now) (h .shape .order-least) (h .shape .dimension-least) _ _ _ _ _ _ (a .slopes .now) _
     (c .before .before .before .before .before .before .before .before .before .before .before .before .before .before .before .before .before .before .before .before .before .before .before .before .before .before .before .before .before .before .before .scale-points .ensures) (call .ensures .0) (h .slopes) (call .ensures .1) (call .kept .1 .1 .1 .1 .1 .0 ∙ h .gradients) (c .before .before .before .before .before .before .before .before .before .before .before .fill-gradients .ensures)

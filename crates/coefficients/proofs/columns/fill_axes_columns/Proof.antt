@@ -64,10 +64,14 @@ add-end : tie.Need-add-end Inv-loop μ-loop
 add-end c = omega (arith, room c, c .before .loop .inv .1 .long, c .before .before .before .before .before .before .good)
 
 add-to : tie.Need-add-to Inv-loop μ-loop
-add-to c = omega (arith, side c, c .before .before .before .before .before .before .pre .2, c .before .before .before .before .before .before .good)
+add-to c =
+    let s = c .before .before .before .before .before .before in
+    omega (arith, side c, s .pre .2, s .good)
 
 mul-starts : tie.Need-mul-starts Inv-loop μ-loop
-mul-starts c = omega (arith, side c, c .before .before .before .before .before .before .pre .2, c .before .before .before .before .before .before .good)
+mul-starts c =
+    let s = c .before .before .before .before .before .before in
+    omega (arith, side c, s .pre .2, s .good)
 
 sub-starts : tie.Need-sub-starts Inv-loop μ-loop
 sub-starts c = search needs
@@ -92,6 +96,7 @@ part-fill-columns-end c = omega (arith, room (c .before))
 
 fill-columns-requires : tie.Need-fill-columns-requires Inv-loop μ-loop
 fill-columns-requires c κs =
+    let t = c .before .before .before .before in
     let s = c .before .before .before .before .before .before .before .before in
     let a = s .args in (
       s .pre .0,
@@ -99,7 +104,7 @@ fill-columns-requires c κs =
       c .before .before .loop-test .taken,
       part-length _ _ (a .order * a .rows) _ refl (rw (s .pre .2) (side (c .before .before))),
       s .pre .3,
-      part-length _ _ (a .order ^ a .dimension * a .rows) _ (ap (λ (n : ℕ). c .before .before .before .loop .at + n * a .rows) (c .before .before .before .before .power .ensures)) (rw (c .before .before .before .before .power .ensures) at (room (c .before .before))),
+      part-length _ _ (a .order ^ a .dimension * a .rows) _ (ap (λ (n : ℕ). c .before .before .before .loop .at + n * a .rows) (t .power .ensures)) (rw (t .power .ensures) at (room (c .before .before))),
     )
 
 add-axis : tie.Need-add-axis Inv-loop μ-loop

@@ -106,10 +106,11 @@ loop-less c = search needs
 
 loop-again : tie.Need-loop-again Inv-loop μ-loop
 loop-again c =
+    let t = c .before .before .before .before in
     let s = c .before .before .before .before .before .before .before .before .before .before .before in
     let a = s .args in
     let l = c .before .before .before .before .before .loop in
-    lead-lent (a .order) (a .rows) (productOf (a .dimension) (a .order) (a .rows) (a .axis) (a .starts .now) (a .factors .now)) _ _ _ _ (l .lead) (l .at) (whole (c .before .before .before .before)) (l .inv) (c .before .before .before .before .loop-test .taken) (c .before .before .fill-lead .ensures)
+    lead-lent (a .order) (a .rows) (productOf (a .dimension) (a .order) (a .rows) (a .axis) (a .starts .now) (a .factors .now)) _ _ _ _ (l .lead) (l .at) (whole (t)) (l .inv) (t .loop-test .taken) (c .before .before .fill-lead .ensures)
 
 same-length-2 : tie.Need-same-length-2 Inv-loop μ-loop
 same-length-2 c = c .before .loop .inv .long

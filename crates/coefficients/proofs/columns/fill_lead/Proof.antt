@@ -76,9 +76,10 @@ stride-of-requires-2 c κs = rw (c .before .before .second-axis .ensures) (two (
 
 fill-two-requires : tie.Need-fill-two-requires
 fill-two-requires c κs =
+    let t = c .before .before .before .before .before in
     let s = c .before .before .before .before .before .before .before .before .before .before in
     let a = s .args in (
-      rw (s .pre .5) (start-within (a .order) (a .rows) (a .lead) (s .pre .0 .order-least) (a .dimension) (a .axis) _ _ (s .pre .3) (c .before .before .before .before .before .stride-of .ensures .0 ∙ first-place (c .before .before .before .before .before .before)) (c .before .before .before .before .before .stride-of .ensures .1)),
+      rw (s .pre .5) (start-within (a .order) (a .rows) (a .lead) (s .pre .0 .order-least) (a .dimension) (a .axis) _ _ (s .pre .3) (t .stride-of .ensures .0 ∙ first-place (c .before .before .before .before .before .before)) (t .stride-of .ensures .1)),
       rw (s .pre .6) (place-within (a .order) (a .rows) (a .lead) (s .pre .0 .order-least) (a .dimension) (secondAxis (a .axis)) _ _ (two s) (c .before .stride-of2 .ensures .0 ∙ second-place (c .before .before .before)) (c .before .stride-of2 .ensures .1 ∙ ap (stepOf (a .dimension) (a .rows)) (c .before .before .before .before .second-axis .ensures))),
       s .pre .7,
     )
@@ -88,14 +89,18 @@ same-length c = search needs
 
 returns : tie.Need-returns
 returns c =
+    let t = c .before .before .before .before .before .before .before .before in
+    let o = c .before .before .before .before in
     let s = c .before .before .before .before .before .before .before .before .before .before .before .before .before in
     let a = s .args in
     c .before .before .fill-two .ensures
-    ∙ lead-two (a .order) (a .rows) (a .lead) (s .pre .0 .order-least) (a .dimension) (a .axis) (a .starts .now) (a .factors .now) (s .pre .3) _ _ _ (c .before .before .before .before .before .before .before .before .stride-of .ensures .0 ∙ first-place (c .before .before .before .before .before .before .before .before .before)) (c .before .before .before .before .before .before .before .before .stride-of .ensures .1) (c .before .before .before .before .stride-of2 .ensures .0 ∙ second-place (c .before .before .before .before .before .before)) (c .before .before .before .before .before .if1 .taken)
-    _ (c .before .before .before .before .stride-of2 .ensures .1 ∙ ap (stepOf (a .dimension) (a .rows)) (c .before .before .before .before .before .before .before .second-axis .ensures))
+    ∙ lead-two (a .order) (a .rows) (a .lead) (s .pre .0 .order-least) (a .dimension) (a .axis) (a .starts .now) (a .factors .now) (s .pre .3) _ _ _ (t .stride-of .ensures .0 ∙ first-place (c .before .before .before .before .before .before .before .before .before)) (t .stride-of .ensures .1) (o .stride-of2 .ensures .0 ∙ second-place (c .before .before .before .before .before .before)) (c .before .before .before .before .before .if1 .taken)
+    _ (o .stride-of2 .ensures .1 ∙ ap (stepOf (a .dimension) (a .rows)) (c .before .before .before .before .before .before .before .second-axis .ensures))
 
 add-end : tie.Need-add-end
-add-end c = omega (arith, second-room (c .before), c .before .before .before .before .before .before .before .before .pre .6, c .before .before .before .before .before .before .before .before .good)
+add-end c =
+    let s = c .before .before .before .before .before .before .before .before in
+    omega (arith, second-room (c .before), s .pre .6, s .good)
 
 third-axis-requires : tie.Need-third-axis-requires
 third-axis-requires c κs = search needs
@@ -107,7 +112,9 @@ stride-of-requires-3 : tie.Need-stride-of-requires-3
 stride-of-requires-3 c κs = rw (c .before .third-axis .ensures) (three (c .before .before))
 
 mul-fill-three : tie.Need-mul-fill-three
-mul-fill-three c = omega (arith, second-room (c .before .before .before .before), c .before .before .before .before .before .before .before .before .before .before .before .pre .6, c .before .before .before .before .before .before .before .before .before .before .before .good)
+mul-fill-three c =
+    let s = c .before .before .before .before .before .before .before .before .before .before .before in
+    omega (arith, second-room (c .before .before .before .before), s .pre .6, s .good)
 
 sub-fill-three : tie.Need-sub-fill-three
 sub-fill-three c = search needs
@@ -120,9 +127,10 @@ part-fill-three-end c = omega (arith, second-room (c .before .before .before .be
 
 fill-three-requires : tie.Need-fill-three-requires
 fill-three-requires c κs =
+    let t = c .before .before .before .before .before .before .before .before in
     let s = c .before .before .before .before .before .before .before .before .before .before .before .before .before in
     let a = s .args in (
-      rw (s .pre .5) (start-within (a .order) (a .rows) (a .lead) (s .pre .0 .order-least) (a .dimension) (a .axis) _ _ (s .pre .3) (c .before .before .before .before .before .before .before .before .stride-of .ensures .0 ∙ first-place (c .before .before .before .before .before .before .before .before .before)) (c .before .before .before .before .before .before .before .before .stride-of .ensures .1)),
+      rw (s .pre .5) (start-within (a .order) (a .rows) (a .lead) (s .pre .0 .order-least) (a .dimension) (a .axis) _ _ (s .pre .3) (t .stride-of .ensures .0 ∙ first-place (c .before .before .before .before .before .before .before .before .before)) (t .stride-of .ensures .1)),
       part-length _ _ (a .rows) _ refl (rw (s .pre .6) (second-room (c .before .before .before .before .before .before))),
       rw (s .pre .6) (place-within (a .order) (a .rows) (a .lead) (s .pre .0 .order-least) (a .dimension) (thirdAxis (a .axis)) _ _ (three (c .before .before .before .before .before)) (c .before .before .stride-of3 .ensures .0 ∙ third-place (c .before .before .before)) (c .before .before .stride-of3 .ensures .1 ∙ ap (stepOf (a .dimension) (a .rows)) (c .before .before .before .before .third-axis .ensures))),
       s .pre .7,
@@ -133,12 +141,15 @@ same-length-2 c = search needs
 
 returns-2 : tie.Need-returns-2
 returns-2 c =
+    let t = c .before .before .before .before .before .before .before .before .before .before .before in
+    let o = c .before .before .before .before .before .before .before .before .before in
+    let h = c .before .before .before .before .before in
     let s = c .before .before .before .before .before .before .before .before .before .before .before .before .before .before .before .before in
     let a = s .args in
     let all : a .dimension ≡ 3 = omega (arith, c .before .before .before .before .before .before .before .before .if1 .left, s .pre .1, s .pre .0 .dimension-most) in
     c .before .before .fill-three .ensures
-    ∙ lead-three (a .order) (a .rows) (a .lead) (s .pre .0 .order-least) (a .dimension) (a .axis) (a .starts .now) (a .factors .now) (s .pre .3) _ _ (c .before .before .before .before .before .before .before .before .before .place-of .result) (c .before .before .before .before .before .before .before .before .before .before .before .stride-of .ensures .0 ∙ first-place (c .before .before .before .before .before .before .before .before .before .before .before .before)) (c .before .before .before .before .before .before .before .before .before .before .before .stride-of .ensures .1) (second-place (c .before .before .before .before .before .before .before .before .before)) all
-    _ _ (c .before .before .before .before .before .stride-of3 .ensures .0 ∙ third-place (c .before .before .before .before .before .before)) (c .before .before .before .before .before .stride-of3 .ensures .1 ∙ ap (stepOf (a .dimension) (a .rows)) (c .before .before .before .before .before .before .before .third-axis .ensures))
+    ∙ lead-three (a .order) (a .rows) (a .lead) (s .pre .0 .order-least) (a .dimension) (a .axis) (a .starts .now) (a .factors .now) (s .pre .3) _ _ (o .place-of .result) (t .stride-of .ensures .0 ∙ first-place (c .before .before .before .before .before .before .before .before .before .before .before .before)) (t .stride-of .ensures .1) (second-place (o)) all
+    _ _ (h .stride-of3 .ensures .0 ∙ third-place (c .before .before .before .before .before .before)) (h .stride-of3 .ensures .1 ∙ ap (stepOf (a .dimension) (a .rows)) (c .before .before .before .before .before .before .before .third-axis .ensures))
 
 pub fill-lead-spec : {M : Type 1} → statement M
 fill-lead-spec =

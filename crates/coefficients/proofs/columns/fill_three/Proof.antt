@@ -90,15 +90,20 @@ part-multiply-three-end-2 c = room (c .before .before)
 
 multiply-three-requires : tie.Need-multiply-three-requires Inv-loop μ-loop
 multiply-three-requires c κs =
+    let t = c .before .before .before in
     let s = c .before .before .before .before .before .before .before .before .before in
     let a = s .args in
-    (part-length _ _ (a .rows) _ refl (first (c .before .before .before)), s .pre .1, part-length _ _ (a .rows) _ refl (other (c .before .before .before)), part-length _ _ (a .rows) _ refl (room (c .before .before .before)))
+    (part-length _ _ (a .rows) _ refl (first (t)), s .pre .1, part-length _ _ (a .rows) _ refl (other (t)), part-length _ _ (a .rows) _ refl (room (t)))
 
 add-a : tie.Need-add-a Inv-loop μ-loop
-add-a c = omega (arith, first (c .before .before .before .before .before .before .before), c .before .before .before .before .before .before .before .before .before .before .before .before .before .pre .0 .0, c .before .before .before .before .before .before .before .before .before .before .before .before .before .good)
+add-a c =
+    let s = c .before .before .before .before .before .before .before .before .before .before .before .before .before in
+    omega (arith, first (c .before .before .before .before .before .before .before), s .pre .0 .0, s .good)
 
 add-c : tie.Need-add-c Inv-loop μ-loop
-add-c c = omega (arith, other (c .before .before .before .before .before .before .before .before), c .before .before .before .before .before .before .before .before .before .before .before .before .before .before .pre .2 .0, c .before .before .before .before .before .before .before .before .before .before .before .before .before .before .good)
+add-c c =
+    let s = c .before .before .before .before .before .before .before .before .before .before .before .before .before .before in
+    omega (arith, other (c .before .before .before .before .before .before .before .before), s .pre .2 .0, s .good)
 
 add-n : tie.Need-add-n Inv-loop μ-loop
 add-n c = search needs

@@ -90,14 +90,19 @@ part-multiply-two-end-3 c = room (c .before .before)
 
 multiply-two-requires : tie.Need-multiply-two-requires Inv-loop μ-loop
 multiply-two-requires c κs =
+    let s = c .before .before .before in
     let a = c .before .before .before .before .before .before .before .before .args in
-    (part-length _ _ (a .rows) _ refl (first (c .before .before .before)), part-length _ _ (a .rows) _ refl (other (c .before .before .before)), part-length _ _ (a .rows) _ refl (room (c .before .before .before)))
+    (part-length _ _ (a .rows) _ refl (first (s)), part-length _ _ (a .rows) _ refl (other (s)), part-length _ _ (a .rows) _ refl (room (s)))
 
 add-a : tie.Need-add-a Inv-loop μ-loop
-add-a c = omega (arith, first (c .before .before .before .before .before .before .before), c .before .before .before .before .before .before .before .before .before .before .before .before .pre .0 .0, c .before .before .before .before .before .before .before .before .before .before .before .before .good)
+add-a c =
+    let s = c .before .before .before .before .before .before .before .before .before .before .before .before in
+    omega (arith, first (c .before .before .before .before .before .before .before), s .pre .0 .0, s .good)
 
 add-b : tie.Need-add-b Inv-loop μ-loop
-add-b c = omega (arith, other (c .before .before .before .before .before .before .before .before), c .before .before .before .before .before .before .before .before .before .before .before .before .before .pre .1 .0, c .before .before .before .before .before .before .before .before .before .before .before .before .before .good)
+add-b c =
+    let s = c .before .before .before .before .before .before .before .before .before .before .before .before .before in
+    omega (arith, other (c .before .before .before .before .before .before .before .before), s .pre .1 .0, s .good)
 
 add-n : tie.Need-add-n Inv-loop μ-loop
 add-n c = search needs

@@ -70,11 +70,12 @@ loop-less c = search needs
 
 loop-again : tie.Need-loop-again Inv-loop μ-loop
 loop-again c =
+    let t = c .before .before .before .before .before .before .before .before .before in
     let l = c .before .before .before .before .before .before .loop in
     let s = c .before .before .before .before .before .before .before .before .before .before .before .before .before .before in
     let a = s .args in
     let call = c .before .before .add-scaled in
-    let fits : a .at + a .rows ≤ length (c .before .before .before .before .before .before .before .before .before .fill-with .last .1 .1 .1 .0) = omega (arith, c .before .before .before .before .before .before .before .before .before .fill-with .kept, s .pre .3) in (
+    let fits : a .at + a .rows ≤ length (t .fill-with .last .1 .1 .1 .0) = omega (arith, t .fill-with .kept, s .pre .3) in (
       omega arith,
       omega (arith, next-column (l .k) (a .rows), l .inv .1),
       omega (arith, next-column (l .k) (a .order), l .inv .2),

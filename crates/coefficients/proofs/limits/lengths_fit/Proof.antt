@@ -57,9 +57,10 @@ returns-3 c =
 
 mul-if4 : tie.Need-mul-if4
 mul-if4 c =
+    let t = c .before .before .before .before .before .before in
     let s = c .before .before .before .before .before .before .before in
     let a = s .args in
-    omega (arith, mul-le-mul {n₁ = c .before .before .before .before .before .before .power .result} {m₁ = a .rows} {n₂ = 4096} {m₂ = 4096} (nodes (c .before .before .before .before .before .before)) (s .pre .1))
+    omega (arith, mul-le-mul {n₁ = t .power .result} {m₁ = a .rows} {n₂ = 4096} {m₂ = 4096} (nodes (t)) (s .pre .1))
 
 returns-4 : tie.Need-returns-4
 unfolding lengthsFit
@@ -69,15 +70,17 @@ returns-4 c =
 
 mul-size-if : tie.Need-mul-size-if
 mul-size-if c =
+    let t = c .before .before .before .before .before .before .before .before in
     let s = c .before .before .before .before .before .before .before .before .before in
     let a = s .args in
-    omega (arith, mul-le-mul {n₁ = a .dimension} {m₁ = c .before .before .before .before .before .before .before .before .power .result} {n₂ = 3} {m₂ = 4096} (s .pre .0 .dimension-most) (nodes (c .before .before .before .before .before .before .before .before)))
+    omega (arith, mul-le-mul {n₁ = a .dimension} {m₁ = t .power .result} {n₂ = 3} {m₂ = 4096} (s .pre .0 .dimension-most) (nodes (t)))
 
 mul-size-if-2 : tie.Need-mul-size-if-2
 mul-size-if-2 c =
+    let t = c .before .before .before .before .before .before .before .before in
     let s = c .before .before .before .before .before .before .before .before .before in
     let a = s .args in
-    omega (arith, mul-le-mul {n₁ = a .dimension * c .before .before .before .before .before .before .before .before .power .result} {m₁ = a .rows} {n₂ = 12288} {m₂ = 4096} (mul-le-mul {n₁ = a .dimension} {m₁ = c .before .before .before .before .before .before .before .before .power .result} {n₂ = 3} {m₂ = 4096} (s .pre .0 .dimension-most) (nodes (c .before .before .before .before .before .before .before .before))) (s .pre .1))
+    omega (arith, mul-le-mul {n₁ = a .dimension * t .power .result} {m₁ = a .rows} {n₂ = 12288} {m₂ = 4096} (mul-le-mul {n₁ = a .dimension} {m₁ = t .power .result} {n₂ = 3} {m₂ = 4096} (s .pre .0 .dimension-most) (nodes (t))) (s .pre .1))
 
 size-if-requires : tie.Need-size-if-requires
 size-if-requires c κs = search needs
@@ -85,8 +88,9 @@ size-if-requires c κs = search needs
 returns-5 : tie.Need-returns-5
 unfolding lengthsFit
 returns-5 c =
+    let s = c .before .before .before .before .before .before .before .before .before .before .before in
     let a = c .before .before .before .before .before .before .before .before .before .before .before .before .args in
-    rw (eq-eqb (a .lent .points) (a .dimension * a .rows) (c .before .before .before .before .before .before .before .before .before .if1 .left), eq-eqb (a .lent .centre) (a .dimension) (c .before .before .before .before .before .before .before .if2 .left), eq-eqb (a .lent .polynomials) (a .order * a .order) (c .before .before .before .before .before .if3 .left), eq-eqb (a .lent .values) (a .order ^ a .dimension * a .rows) (rw (c .before .before .before .before .before .before .before .before .before .before .before .power .ensures) at (c .before .before .before .if4 .left)), ne-eqb (a .lent .gradients) (sizeIf (a .with-gradients) (a .dimension * a .order ^ a .dimension * a .rows)) (rw (c .before .before .size-if .ensures, c .before .before .before .before .before .before .before .before .before .before .before .power .ensures) at (c .if5 .taken)))
+    rw (eq-eqb (a .lent .points) (a .dimension * a .rows) (c .before .before .before .before .before .before .before .before .before .if1 .left), eq-eqb (a .lent .centre) (a .dimension) (c .before .before .before .before .before .before .before .if2 .left), eq-eqb (a .lent .polynomials) (a .order * a .order) (c .before .before .before .before .before .if3 .left), eq-eqb (a .lent .values) (a .order ^ a .dimension * a .rows) (rw (s .power .ensures) at (c .before .before .before .if4 .left)), ne-eqb (a .lent .gradients) (sizeIf (a .with-gradients) (a .dimension * a .order ^ a .dimension * a .rows)) (rw (c .before .before .size-if .ensures, s .power .ensures) at (c .if5 .taken)))
 
 mul-if6 : tie.Need-mul-if6
 mul-if6 c =
@@ -97,8 +101,9 @@ mul-if6 c =
 returns-6 : tie.Need-returns-6
 unfolding lengthsFit
 returns-6 c =
+    let s = c .before .before .before .before .before .before .before .before .before .before .before .before .before in
     let a = c .before .before .before .before .before .before .before .before .before .before .before .before .before .before .args in
-    rw (eq-eqb (a .lent .points) (a .dimension * a .rows) (c .before .before .before .before .before .before .before .before .before .before .before .if1 .left), eq-eqb (a .lent .centre) (a .dimension) (c .before .before .before .before .before .before .before .before .before .if2 .left), eq-eqb (a .lent .polynomials) (a .order * a .order) (c .before .before .before .before .before .before .before .if3 .left), eq-eqb (a .lent .values) (a .order ^ a .dimension * a .rows) (rw (c .before .before .before .before .before .before .before .before .before .before .before .before .before .power .ensures) at (c .before .before .before .before .before .if4 .left)), eq-eqb (a .lent .gradients) (sizeIf (a .with-gradients) (a .dimension * a .order ^ a .dimension * a .rows)) (rw (c .before .before .before .before .size-if .ensures, c .before .before .before .before .before .before .before .before .before .before .before .before .before .power .ensures) at (c .before .before .if5 .left)), ne-eqb (a .lent .factors) (a .dimension * a .order * a .rows) (c .if6 .taken))
+    rw (eq-eqb (a .lent .points) (a .dimension * a .rows) (c .before .before .before .before .before .before .before .before .before .before .before .if1 .left), eq-eqb (a .lent .centre) (a .dimension) (c .before .before .before .before .before .before .before .before .before .if2 .left), eq-eqb (a .lent .polynomials) (a .order * a .order) (c .before .before .before .before .before .before .before .if3 .left), eq-eqb (a .lent .values) (a .order ^ a .dimension * a .rows) (rw (s .power .ensures) at (c .before .before .before .before .before .if4 .left)), eq-eqb (a .lent .gradients) (sizeIf (a .with-gradients) (a .dimension * a .order ^ a .dimension * a .rows)) (rw (c .before .before .before .before .size-if .ensures, s .power .ensures) at (c .before .before .if5 .left)), ne-eqb (a .lent .factors) (a .dimension * a .order * a .rows) (c .if6 .taken))
 
 mul-size-if-3 : tie.Need-mul-size-if-3
 mul-size-if-3 c = search needs
@@ -109,8 +114,9 @@ size-if-requires-2 c κs = search needs
 returns-7 : tie.Need-returns-7
 unfolding lengthsFit
 returns-7 c =
+    let s = c .before .before .before .before .before .before .before .before .before .before .before .before .before .before .before in
     let a = c .before .before .before .before .before .before .before .before .before .before .before .before .before .before .before .before .args in
-    rw (eq-eqb (a .lent .points) (a .dimension * a .rows) (c .before .before .before .before .before .before .before .before .before .before .before .before .before .if1 .left), eq-eqb (a .lent .centre) (a .dimension) (c .before .before .before .before .before .before .before .before .before .before .before .if2 .left), eq-eqb (a .lent .polynomials) (a .order * a .order) (c .before .before .before .before .before .before .before .before .before .if3 .left), eq-eqb (a .lent .values) (a .order ^ a .dimension * a .rows) (rw (c .before .before .before .before .before .before .before .before .before .before .before .before .before .before .before .power .ensures) at (c .before .before .before .before .before .before .before .if4 .left)), eq-eqb (a .lent .gradients) (sizeIf (a .with-gradients) (a .dimension * a .order ^ a .dimension * a .rows)) (rw (c .before .before .before .before .before .before .size-if .ensures, c .before .before .before .before .before .before .before .before .before .before .before .before .before .before .before .power .ensures) at (c .before .before .before .before .if5 .left)), eq-eqb (a .lent .factors) (a .dimension * a .order * a .rows) (c .before .before .if6 .left), c .before .size-if2 .ensures)
+    rw (eq-eqb (a .lent .points) (a .dimension * a .rows) (c .before .before .before .before .before .before .before .before .before .before .before .before .before .if1 .left), eq-eqb (a .lent .centre) (a .dimension) (c .before .before .before .before .before .before .before .before .before .before .before .if2 .left), eq-eqb (a .lent .polynomials) (a .order * a .order) (c .before .before .before .before .before .before .before .before .before .if3 .left), eq-eqb (a .lent .values) (a .order ^ a .dimension * a .rows) (rw (s .power .ensures) at (c .before .before .before .before .before .before .before .if4 .left)), eq-eqb (a .lent .gradients) (sizeIf (a .with-gradients) (a .dimension * a .order ^ a .dimension * a .rows)) (rw (c .before .before .before .before .before .before .size-if .ensures, s .power .ensures) at (c .before .before .before .before .if5 .left)), eq-eqb (a .lent .factors) (a .dimension * a .order * a .rows) (c .before .before .if6 .left), c .before .size-if2 .ensures)
 
 pub lengths-fit-spec : {M : Type 1} → statement M
 lengths-fit-spec =

@@ -1,0 +1,73 @@
+// What a walk counts: at place n how often the number n came, up to 10; then the calls, the wrong numbers, and the
+// refusals that changed lent memory.
+use crate::line::print;
+use crate::line::put;
+use crate::line::put_byte;
+use crate::line::put_number;
+
+const CALLS: usize = 11;
+
+const WRONG: usize = 12;
+
+const CHANGED: usize = 13;
+
+// No walk makes so many calls that a count stops.
+fn one_more(counts: &mut [u64; 14], at: usize) {
+    if at < 14 {
+        let n = counts[at];
+        if n < 1000000000 {
+            counts[at] = n + 1;
+        }
+    }
+}
+
+// Counts a call: the number that was expected, the one that came, and whether lent memory is as it was.
+pub fn note(counts: &mut [u64; 14], expected: u8, number: u8, is_same: bool) {
+    one_more(counts, CALLS);
+    if number <= 10 {
+        one_more(counts, number as usize);
+    }
+    if number != expected {
+        one_more(counts, WRONG);
+    }
+    if number != 0 && !is_same {
+        one_more(counts, CHANGED);
+    }
+}
+
+// Prints the line of a call.
+pub fn report(name: &[u8], counts: &[u64; 14]) -> bool {
+    let mut line = [0u8; 512];
+    let after_name = put(&mut line, 0, name);
+    let after_colon = put_byte(&mut line, after_name, b':');
+    let after_count = put_number(&mut line, after_colon, counts[CALLS]);
+    let before_numbers = put(&mut line, after_count, b" calls");
+    let after_numbers = put_numbers(&mut line, before_numbers, counts);
+    let before_wrong = put(&mut line, after_numbers, b"; wrong");
+    let after_wrong = put_number(&mut line, before_wrong, counts[WRONG]);
+    let before_changed = put(&mut line, after_wrong, b"; changed");
+    let after_changed = put_number(&mut line, before_changed, counts[CHANGED]);
+    print(&mut line, after_changed)
+}
+
+// Each number that came, and how often.
+fn put_numbers(line: &mut [u8; 512], to: usize, counts: &[u64; 14]) -> usize {
+    let mut next = to;
+    let mut mark = b';';
+    let mut i = 0;
+    while i < 11 {
+        if counts[i] > 0 {
+            next = put_pair(line, next, mark, i, counts[i]);
+            mark = b',';
+        }
+        i += 1;
+    }
+    next
+}
+
+fn put_pair(line: &mut [u8; 512], to: usize, mark: u8, number: usize, count: u64) -> usize {
+    let after_mark = put_byte(line, to, mark);
+    let after_number = put_number(line, after_mark, number as u64);
+    let after_colon = put_byte(line, after_number, b':');
+    put_number(line, after_colon, count)
+}

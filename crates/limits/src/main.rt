@@ -1,0 +1,16 @@
+// Walks the limits of every public call from both sides: makes each call with every combination of a few values and
+// lengths about its limits, and prints how often each number came, how many were wrong, and how many refusals changed
+// lent memory.
+mod counts;
+mod line;
+mod lookups;
+mod patterns;
+mod sizes;
+mod tables;
+
+fn main() {
+    lookups::walk_look_up();
+    lookups::walk_reference();
+    tables::walk_combined();
+    tables::walk_inverse();
+}

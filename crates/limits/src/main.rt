@@ -2,9 +2,11 @@
 // lengths about its limits, and prints how often each number came, how many were wrong, and how many refusals changed
 // lent memory.
 mod counts;
+mod crosses;
 mod line;
 mod lookups;
 mod patterns;
+mod pivots;
 mod sizes;
 mod tables;
 
@@ -13,4 +15,7 @@ fn main() {
     lookups::walk_reference();
     tables::walk_combined();
     tables::walk_inverse();
+    pivots::walk_argmax();
+    pivots::walk_cutoff();
+    crosses::walk_cross();
 }

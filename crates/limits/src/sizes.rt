@@ -18,7 +18,7 @@ pub fn product(a: usize, b: usize) -> usize {
 }
 
 fn bounded_product(a: usize, b: usize) -> usize {
-    up_to(8192, up_to(8192, a) * up_to(8192, b))
+    up_to(65536, up_to(65536, a) * up_to(65536, b))
 }
 
 // An order to the power of a dimension.
@@ -35,7 +35,7 @@ pub fn power(dimension: usize, order: usize) -> usize {
 pub fn lent(room: usize, exact: usize, k: usize) -> usize
     ensures { λ r. ⌜ r ≤ room ⌝ }
 {
-    let n = up_to(8192, exact);
+    let n = up_to(65536, exact);
     match k {
         0 => up_to(room, n),
         1 => up_to(room, one_less(n)),
@@ -44,7 +44,7 @@ pub fn lent(room: usize, exact: usize, k: usize) -> usize
     }
 }
 
-fn one_less(n: usize) -> usize {
+pub fn one_less(n: usize) -> usize {
     if n > 0 { n - 1 } else { 0 }
 }
 

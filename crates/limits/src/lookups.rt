@@ -84,7 +84,7 @@ fn call_reference(counts: &mut [u64; 14], k: usize) {
     note(counts, reference_expected(dimension, wanted), number, true);
 }
 
-fn reference_expected(dimension: usize, wanted: usize) -> u8 {
+pub fn reference_expected(dimension: usize, wanted: usize) -> u8 {
     let count = match dimension {
         1 => 2,
         2 => 7,
@@ -94,7 +94,7 @@ fn reference_expected(dimension: usize, wanted: usize) -> u8 {
     if wanted >= count { 5 } else { 0 }
 }
 
-fn number_at(k: usize) -> usize {
+pub fn number_at(k: usize) -> usize {
     match k {
         0 => 0,
         1 => 1,

@@ -1,12 +1,16 @@
 // Walks the limits of every public call from both sides: makes each call with every combination of a few values and
 // lengths about its limits, and prints how often each number came, how many were wrong, and how many refusals changed
 // lent memory.
+mod cells;
 mod counts;
 mod crosses;
 mod line;
 mod lookups;
+mod moves;
 mod patterns;
 mod pivots;
+mod placed;
+mod polynomials;
 mod sizes;
 mod tables;
 
@@ -15,6 +19,13 @@ fn main() {
     lookups::walk_reference();
     tables::walk_combined();
     tables::walk_inverse();
+    polynomials::walk_nodes();
+    polynomials::walk_polynomials();
+    moves::walk_operators();
+    moves::walk_transfer();
+    placed::walk_targets();
+    placed::walk_sources();
+    cells::walk_coefficients();
     pivots::walk_argmax();
     pivots::walk_cutoff();
     crosses::walk_cross();

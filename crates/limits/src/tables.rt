@@ -9,24 +9,14 @@ use crate::sizes::power;
 use crate::sizes::shape_expected;
 
 // Six dimensions, six orders, eight cases, four lengths.
-pub fn walk_combined() {
+pub fn walk_tables(is_inverse: bool, name: &[u8]) {
     let mut counts = [0u64; 14];
     let mut k = 0;
     while k < 1152 {
-        lend_table(&mut counts, false, k);
+        lend_table(&mut counts, is_inverse, k);
         k += 1;
     }
-    report(b"combined_permutation", &counts);
-}
-
-pub fn walk_inverse() {
-    let mut counts = [0u64; 14];
-    let mut k = 0;
-    while k < 1152 {
-        lend_table(&mut counts, true, k);
-        k += 1;
-    }
-    report(b"inverse_permutation", &counts);
+    report(name, &counts);
 }
 
 fn lend_table(counts: &mut [u64; 14], is_inverse: bool, k: usize) {

@@ -1,14 +1,14 @@
--- `limits::placed::walk_sources` is safe and ends. The measure is what is left of the count. Assumes nothing.
+-- `limits::placed::walk_points` is safe and ends. The measure is what is left of the count. Assumes nothing.
 use Prim.Native.Nat.{_-_}
 use borrow.Author.Needs.{needs}
-use Rattle.limits.proofs.placed.walk_sources.Statement.{statement}
-use Rattle.limits.proofs.placed.walk_sources.Tie as tie
+use Rattle.limits.proofs.placed.walk_points.Statement.{statement}
+use Rattle.limits.proofs.placed.walk_points.Tie as tie
 
 abbrev Inv-loop : tie.InvT-loop
-Inv-loop counts₀ k₀ t3 counts k = Unit {0}
+Inv-loop are-sources calls name counts₀ k₀ counts k = Unit {0}
 
 abbrev μ-loop : tie.MeasureT-loop
-μ-loop counts₀ k₀ t3 counts k = 36864 - k
+μ-loop are-sources calls name counts₀ k₀ counts k = calls - k
 
 loop-holds : tie.Need-loop-holds Inv-loop μ-loop
 loop-holds c = search needs
@@ -25,17 +25,14 @@ loop-less c = search needs
 loop-again : tie.Need-loop-again Inv-loop μ-loop
 loop-again c = search needs
 
-slice-aggregate-report : tie.Need-slice-aggregate-report Inv-loop μ-loop
-slice-aggregate-report c = search needs
-
 report-requires : tie.Need-report-requires Inv-loop μ-loop
 report-requires c κs = search needs
 
 returns : tie.Need-returns Inv-loop μ-loop
 returns c = search needs
 
-pub walk-sources-spec : {M : Type 1} → statement M
-walk-sources-spec =
+pub walk-points-spec : {M : Type 1} → statement M
+walk-points-spec =
     tie.close
     (tie.spec
     Inv-loop
@@ -45,6 +42,5 @@ walk-sources-spec =
     add-k
     loop-less
     loop-again
-    slice-aggregate-report
     report-requires
     returns)

@@ -34,7 +34,8 @@ pub fn walk_coefficients() {
     report(b"get_approximation_coefficients", &counts);
 }
 
-// Six dimensions, six orders, eight lengths, six rows, with gradients or without, three faults, four lengths for all buffers.
+// Six dimensions, six orders, eight lengths, six counts of rows, with gradients or without, no fault or one of two, and
+// four lengths for all buffers.
 fn walk_cells(counts: &mut [u64; 14]) {
     let mut k = 0;
     while k < 41472 {

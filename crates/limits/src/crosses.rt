@@ -139,14 +139,9 @@ fn call_cross(
     column: &mut [f64],
 ) {
     let fit = factors_fit(rows, columns, samples.len(), u.len(), v.len())
-        && lines_fit(
-            rows,
-            columns,
-            row_list.len(),
-            column_list.len(),
-            row.len(),
-            column.len(),
-        );
+        && lists_fit(rows, columns, row_list.len(), column_list.len())
+        && row.len() == columns
+        && column.len() == rows;
     let answer = aca::aca_partial_pivoting(
         rows,
         columns,
@@ -180,16 +175,9 @@ fn factors_fit(rows: usize, columns: usize, samples: usize, u: usize, v: usize) 
     samples == product(rows, columns) && u == product(rows, most) && v == product(columns, most)
 }
 
-fn lines_fit(
-    rows: usize,
-    columns: usize,
-    row_list: usize,
-    column_list: usize,
-    row: usize,
-    column: usize,
-) -> bool {
+fn lists_fit(rows: usize, columns: usize, row_list: usize, column_list: usize) -> bool {
     let most = lesser(rows, columns);
-    row_list == most && column_list == most && row == columns && column == rows
+    row_list == most && column_list == most
 }
 
 fn cross_expected(rows: usize, columns: usize, fit: bool) -> u8 {

@@ -40,7 +40,7 @@ const EPSILONS: [f64; 12] = [
     f64::NAN,
 ];
 
-fn ask_argmax(stream: &mut Stream, entries: &[f64], mask: &[u8]) {
+pub fn ask_argmax(stream: &mut Stream, entries: &[f64], mask: &[u8]) {
     let header = Header {
         kind: ARGMAX,
         rows: entries.len(),
@@ -52,7 +52,7 @@ fn ask_argmax(stream: &mut Stream, entries: &[f64], mask: &[u8]) {
     stream.input.extend(mask);
 }
 
-fn ask_cutoff(stream: &mut Stream, values: &[f64], epsilon: f64) {
+pub fn ask_cutoff(stream: &mut Stream, values: &[f64], epsilon: f64) {
     let header = Header {
         kind: CUTOFF,
         rows: values.len(),

@@ -36,7 +36,7 @@ pub fn stored(epsilon: f64) -> Vec<Block> {
 const SHAPES: [(usize, usize); 6] = [(3, 3), (5, 4), (8, 8), (12, 20), (27, 27), (40, 40)];
 
 /// The same kernel for targets and sources drawn in two boxes of some dimension.
-fn apart(random: &mut Random, shape: (usize, usize), dimension: usize, epsilon: f64) -> Block {
+pub fn apart(random: &mut Random, shape: (usize, usize), dimension: usize, epsilon: f64) -> Block {
     let targets = random.units(shape.0 * dimension);
     let sources = random.units(shape.1 * dimension);
     Block::from_fn(shape, epsilon, |row, column| {

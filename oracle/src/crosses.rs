@@ -123,7 +123,7 @@ fn fixed(stream: &mut Stream) -> Result<(), String> {
 }
 
 /// A block of two by two, row after row.
-fn square(rows: [f64; 4], epsilon: f64) -> Block {
+pub fn square(rows: [f64; 4], epsilon: f64) -> Block {
     Block::from_fn((2, 2), epsilon, |row, column| rows[2 * row + column])
 }
 

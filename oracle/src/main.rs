@@ -1,8 +1,10 @@
-//! Writes the input and the answers of every comparison into the repository its argument names.
+//! Writes the input and the answers of every comparison into the repository its argument names, or
+//! compares on cases that are not stored.
 
 mod check;
 mod choices;
 mod coefficients;
+mod compare;
 mod cross;
 mod cross_blocks;
 mod cross_exact;
@@ -27,8 +29,9 @@ use floats::Stream;
 use lookup::Lookup;
 use oracle::chebyshev::reach::{Tables, tables};
 use replay::Replay;
-use std::path::{Path, PathBuf};
-use std::process::exit;
+use std::ffi::OsString;
+use std::path::Path;
+use std::process::ExitCode;
 use std::{env, fs};
 
 const ORDERS: [usize; 7] = [1, 2, 3, 4, 5, 6, 16];
@@ -82,10 +85,10 @@ fn floats() -> Result<Stream, String> {
     Ok(stream)
 }
 
-/// What is only printed: figures, and the answer of a large block if the second argument asks for it.
-fn findings() -> Result<Vec<String>, String> {
+/// What is only printed: figures, and the answer of a large block if the first word asks for it.
+fn findings(words: &[OsString]) -> Result<Vec<String>, String> {
     let mut lines = cross_orders::lines()?;
-    match env::args_os().nth(2) {
+    match words.first() {
         None => {}
         Some(word) if word == "large" => lines.push(large_cross::line()?),
         Some(other) => return Err(format!("no such argument: {}", other.display())),
@@ -93,11 +96,7 @@ fn findings() -> Result<Vec<String>, String> {
     Ok(lines)
 }
 
-fn run() -> Result<(), String> {
-    let root = env::args_os()
-        .nth(1)
-        .map(PathBuf::from)
-        .ok_or("name the repository to write into")?;
+fn store(root: &Path, words: &[OsString]) -> Result<(), String> {
     let tables = ask();
     // Nothing is written unless every check holds.
     check::tables(&tables)?;
@@ -108,18 +107,29 @@ fn run() -> Result<(), String> {
     let lookup = lookup::lookup(&tables);
     check::refusals(&lookup)?;
     let floats = floats()?;
-    let findings = findings()?;
-    write_all(&root, &replay, &lookup)?;
+    let findings = findings(words)?;
+    write_all(root, &replay, &lookup)?;
     check::count(&tables, &replay, &lookup);
-    write_run(&root, "replay_floats", &floats.input, &floats.answers)?;
+    write_run(root, "replay_floats", &floats.input, &floats.answers)?;
     floats.count("replay_floats");
     findings.iter().for_each(|line| println!("{line}"));
     Ok(())
 }
 
-fn main() {
-    if let Err(message) = run() {
-        eprintln!("oracle: {message}");
-        exit(1);
+fn main() -> ExitCode {
+    let words: Vec<OsString> = env::args_os().skip(1).collect();
+    let stored = match words.as_slice() {
+        [] => Err(String::from("name the repository to write into")),
+        [root, word, rest @ ..] if word == "compare" => {
+            return compare::main(Path::new(root), rest);
+        }
+        [root, rest @ ..] => store(Path::new(root), rest),
+    };
+    match stored {
+        Ok(()) => ExitCode::SUCCESS,
+        Err(message) => {
+            eprintln!("oracle: {message}");
+            ExitCode::FAILURE
+        }
     }
 }

@@ -6,7 +6,7 @@ use oracle::chebyshev::reach;
 
 const OPERATORS: u8 = 3;
 
-fn ask(stream: &mut Stream, order: usize, nodes: &[f64], polynomials: &[f64]) {
+pub fn ask(stream: &mut Stream, order: usize, nodes: &[f64], polynomials: &[f64]) {
     let header = Header {
         kind: OPERATORS,
         order,

@@ -30,7 +30,7 @@ const SPECIAL: [f64; 10] = [
     1.0,
 ];
 
-fn ask_targets(stream: &mut Stream, dimension: usize, length: f64, nodes: &[f64]) {
+pub fn ask_targets(stream: &mut Stream, dimension: usize, length: f64, nodes: &[f64]) {
     let order = nodes.len();
     let header = Header {
         kind: TARGETS,
@@ -43,7 +43,7 @@ fn ask_targets(stream: &mut Stream, dimension: usize, length: f64, nodes: &[f64]
     stream.case(header, &[&[length], nodes], &line);
 }
 
-fn ask_sources(
+pub fn ask_sources(
     stream: &mut Stream,
     dimension: usize,
     length: f64,

@@ -34,7 +34,7 @@ const SPECIAL: [f64; 19] = [
     f64::NAN,
 ];
 
-fn ask_nodes(stream: &mut Stream, order: usize) {
+pub fn ask_nodes(stream: &mut Stream, order: usize) {
     let header = Header {
         kind: NODES,
         order,
@@ -44,7 +44,7 @@ fn ask_nodes(stream: &mut Stream, order: usize) {
     stream.case(header, &[], &line);
 }
 
-fn ask_polynomials(stream: &mut Stream, order: usize, with_derivatives: bool, points: &[f64]) {
+pub fn ask_polynomials(stream: &mut Stream, order: usize, with_derivatives: bool, points: &[f64]) {
     let header = Header {
         kind: POLYNOMIALS,
         order,

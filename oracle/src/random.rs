@@ -1,4 +1,4 @@
-//! A generator of floats with a fixed seed, so that every run asks the same.
+//! A generator of floats from a seed, so that every run with that seed asks the same.
 
 /// The generator splitmix64: a counter whose values are mixed.
 pub struct Random {
@@ -15,6 +15,21 @@ impl Random {
         let first = (self.state ^ (self.state >> 30)).wrapping_mul(0xbf58_476d_1ce4_e5b9);
         let second = (first ^ (first >> 27)).wrapping_mul(0x94d0_49bb_1331_11eb);
         second ^ (second >> 31)
+    }
+
+    /// A generator of its own: how much is drawn from either changes nothing for the other.
+    pub fn branch(&mut self) -> Self {
+        Self::new(self.next())
+    }
+
+    /// A number below `bound`, which must not be 0.
+    pub fn below(&mut self, bound: usize) -> usize {
+        (self.next() % bound as u64) as usize
+    }
+
+    /// One item of a list, which must not be empty.
+    pub fn one_of<T: Copy>(&mut self, list: &[T]) -> T {
+        list[self.below(list.len())]
     }
 
     /// A float from -1 to 1, a multiple of 2^-52.
@@ -41,8 +56,12 @@ impl Random {
 
     /// Floats picked from a list.
     pub fn picks(&mut self, count: usize, list: &[f64]) -> Vec<f64> {
-        (0..count)
-            .map(|_| list[(self.next() % list.len() as u64) as usize])
-            .collect()
+        (0..count).map(|_| self.one_of(list)).collect()
+    }
+
+    /// Floats whose bits, where `mask` has a 1, are drawn; the others are 0.
+    pub fn masked_bits(&mut self, count: usize, mask: u64) -> Vec<f64> {
+        let mut float = || f64::from_bits(self.next() & mask);
+        (0..count).map(|_| float()).collect()
     }
 }

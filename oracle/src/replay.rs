@@ -4,8 +4,8 @@ use crate::filled;
 use oracle::chebyshev::reach::Tables;
 
 const REFERENCE: u8 = 0;
-const COMBINED: u8 = 1;
-const INVERSE: u8 = 2;
+pub const COMBINED: u8 = 1;
+pub const INVERSE: u8 = 2;
 
 /// Tables longer than this are written as a checksum.
 const LONGEST_SHOWN: usize = 64;
@@ -18,6 +18,15 @@ pub struct Replay {
 }
 
 impl Replay {
+    /// Asks for every reference; they do not hang on the order, so the first of a dimension serves.
+    pub fn references(&mut self, all: &[Tables]) {
+        for tables in all.iter().filter(|tables| tables.order == all[0].order) {
+            for (number, vector) in tables.references.iter().enumerate() {
+                self.reference(tables.dimension, number, vector);
+            }
+        }
+    }
+
     fn reference(&mut self, dimension: usize, number: usize, vector: &[i32]) {
         let [x, y, z] = filled(vector);
         self.input
@@ -26,7 +35,7 @@ impl Replay {
             .push_str(&format!("reference {dimension} {number}: {x} {y} {z}\n"));
     }
 
-    fn table(&mut self, kind: u8, tables: &Tables, case: usize) {
+    pub fn table(&mut self, kind: u8, tables: &Tables, case: usize) {
         let (word, table) = match kind {
             COMBINED => ("combined", &tables.combined[case]),
             _ => ("inverse", &tables.inverse[case]),
@@ -62,12 +71,7 @@ fn shown(table: &[usize]) -> String {
 /// All references come first, then the tables, by dimension, order and case.
 pub fn replay(all: &[Tables]) -> Replay {
     let mut replay = Replay::default();
-    // The references do not hang on the order, so the first order of a dimension serves.
-    for tables in all.iter().filter(|tables| tables.order == all[0].order) {
-        for (number, vector) in tables.references.iter().enumerate() {
-            replay.reference(tables.dimension, number, vector);
-        }
-    }
+    replay.references(all);
     for tables in all {
         for case in 0..tables.combined.len() {
             replay.table(COMBINED, tables, case);

@@ -14,7 +14,7 @@ const LEAST: f64 = f64::from_bits(1);
 /// Whole numbers so small that no sum of their products rounds.
 const SMALL: [f64; 7] = [-3.0, -2.0, -1.0, 0.0, 1.0, 2.0, 3.0];
 
-fn ask_transfer(stream: &mut Stream, block: &Block) {
+pub fn ask_transfer(stream: &mut Stream, block: &Block) {
     let header = Header {
         kind: TRANSFER,
         order: block.order,

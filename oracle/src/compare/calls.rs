@@ -1,0 +1,61 @@
+//! Names the calls whose cases are drawn.
+
+use super::{blocks, cases};
+use crate::floats::Stream;
+use crate::random::Random;
+
+#[derive(Clone, Copy)]
+pub enum Call {
+    Polynomials,
+    Derivatives,
+    Operators,
+    ToBlock,
+    ToChild,
+    Targets,
+    Sources,
+    Coefficients,
+    Gradients,
+    Argmax,
+    Cutoff,
+    Cross,
+}
+
+/// Each call, the name that its cases are counted under, and what the count is divided by for it.
+///
+/// A call that is asked in two ways has half of the cases for each, and the coefficients half of that,
+/// since the program clears megabytes before each of them.
+pub const CALLS: [(Call, &str, usize); 12] = [
+    (Call::Polynomials, "polynomials", 2),
+    (Call::Derivatives, "polynomials with derivatives", 2),
+    (Call::Operators, "operators", 1),
+    (Call::ToBlock, "transfers to a block", 2),
+    (Call::ToChild, "transfers to a child", 2),
+    (Call::Targets, "target points", 1),
+    (Call::Sources, "source points", 1),
+    (Call::Coefficients, "coefficients", 4),
+    (Call::Gradients, "coefficients with gradients", 4),
+    (Call::Argmax, "argmax", 1),
+    (Call::Cutoff, "cutoff", 1),
+    (Call::Cross, "cross approximation", 1),
+];
+
+impl Call {
+    /// Draws a case, and adds it with the answer of the text.
+    pub fn ask(self, random: &mut Random, stream: &mut Stream) -> Result<(), String> {
+        match self {
+            Self::Polynomials => cases::polynomials(random, stream, false),
+            Self::Derivatives => cases::polynomials(random, stream, true),
+            Self::Operators => cases::operators(random, stream),
+            Self::ToBlock => cases::transfer(random, stream, false),
+            Self::ToChild => cases::transfer(random, stream, true),
+            Self::Targets => cases::targets(random, stream),
+            Self::Sources => cases::sources(random, stream),
+            Self::Coefficients => cases::coefficients(random, stream, false),
+            Self::Gradients => cases::coefficients(random, stream, true),
+            Self::Argmax => cases::argmax(random, stream),
+            Self::Cutoff => cases::cutoff(random, stream),
+            Self::Cross => blocks::ask(random, stream)?,
+        }
+        Ok(())
+    }
+}

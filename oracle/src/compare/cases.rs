@@ -1,0 +1,117 @@
+//! Draws a case of each call on floats, but for the cross approximation.
+
+use super::draw;
+use crate::choices::{ask_argmax, ask_cutoff};
+use crate::floats::Stream;
+use crate::points::{ask_sources, ask_targets};
+use crate::polynomials::ask_polynomials;
+use crate::random::Random;
+use crate::transfers::ask_transfer;
+use crate::{coefficients, operators};
+use oracle::chebyshev::reach::{Block, Cell};
+
+/// The most points of a call, the most coefficients that the replay has room for, and the most
+/// entries of a list.
+const MOST_POINTS: usize = 4096;
+const MOST_VALUES: usize = 65536;
+const MOST_ENTRIES: usize = 1024;
+
+pub fn polynomials(random: &mut Random, stream: &mut Stream, with_derivatives: bool) {
+    let order = draw::order(random, 1);
+    let count = draw::size(random, MOST_POINTS);
+    let points = draw::floats(random, count);
+    ask_polynomials(stream, order, with_derivatives, &points);
+}
+
+pub fn operators(random: &mut Random, stream: &mut Stream) {
+    // The answers of orders up to 4 are written out.
+    let most = random.one_of(&[4, 16]);
+    let order = 1 + random.below(most);
+    let (nodes, polynomials) = draw::nodes(random, order);
+    operators::ask(stream, order, &nodes, &polynomials);
+}
+
+pub fn transfer(random: &mut Random, stream: &mut Stream, transpose: bool) {
+    let dimension = draw::dimension(random);
+    let order = draw::order(random, dimension);
+    let block = Block {
+        dimension,
+        order,
+        child: random.below(1 << dimension),
+        transpose,
+        input: draw::floats(random, order.pow(dimension as u32)),
+        operators: draw::floats(random, 2 * order * order),
+    };
+    ask_transfer(stream, &block);
+}
+
+pub fn targets(random: &mut Random, stream: &mut Stream) {
+    let dimension = draw::dimension(random);
+    let order = draw::order(random, dimension);
+    let (nodes, _) = draw::nodes(random, order);
+    ask_targets(stream, dimension, draw::length(random), &nodes);
+}
+
+pub fn sources(random: &mut Random, stream: &mut Stream) {
+    let dimension = draw::dimension(random);
+    let order = draw::order(random, dimension);
+    let (nodes, _) = draw::nodes(random, order);
+    let reference = random.below([2, 7, 16][dimension - 1]);
+    let length = draw::length(random);
+    ask_sources(stream, dimension, length, reference, &nodes);
+}
+
+/// Points in a cell, or anywhere, a column an axis.
+fn points(random: &mut Random, centre: &[f64], length: f64, rows: usize) -> Vec<f64> {
+    if random.below(2) == 0 {
+        return draw::finite_floats(random, rows * centre.len());
+    }
+    let mut column = |middle: &f64| {
+        let scaled = random.units(rows).into_iter();
+        let placed = scaled.map(|x| middle + x * (0.5 * length));
+        placed.collect::<Vec<f64>>()
+    };
+    centre.iter().flat_map(&mut column).collect()
+}
+
+pub fn coefficients(random: &mut Random, stream: &mut Stream, with_gradients: bool) {
+    let dimension = draw::dimension(random);
+    let order = draw::order(random, dimension);
+    let nodes = order.pow(dimension as u32);
+    let most = MOST_POINTS.min(MOST_VALUES / nodes.max(dimension * order));
+    let rows = draw::size(random, most);
+    let length = draw::length(random);
+    let centre = draw::finite_floats(random, dimension);
+    let cell = Cell {
+        dimension,
+        order,
+        with_gradients,
+        length,
+        points: points(random, &centre, length, rows),
+        centre,
+        node_polynomials: draw::nodes(random, order).1,
+    };
+    coefficients::ask(stream, &cell);
+}
+
+/// A mask of ones only, of zeros only, of as many of each, or of few ones.
+fn mask(random: &mut Random, count: usize) -> Vec<u8> {
+    let bytes = random.one_of(&[[1, 1, 1, 1], [0, 0, 0, 0], [0, 1, 0, 1], [0, 0, 0, 1]]);
+    (0..count).map(|_| random.one_of(&bytes)).collect()
+}
+
+pub fn argmax(random: &mut Random, stream: &mut Stream) {
+    let count = draw::size(random, MOST_ENTRIES);
+    let entries = draw::floats(random, count);
+    ask_argmax(stream, &entries, &mask(random, count));
+}
+
+/// The values fall, as singular values do, in half of the cases; there is always one.
+pub fn cutoff(random: &mut Random, stream: &mut Stream) {
+    let count = draw::size(random, MOST_ENTRIES).max(1);
+    let mut values = draw::floats(random, count);
+    if random.below(2) == 0 {
+        values.sort_by(|a, b| b.abs().total_cmp(&a.abs()));
+    }
+    ask_cutoff(stream, &values, draw::epsilon(random));
+}

@@ -35,9 +35,9 @@ const ALL_BITS: u64 = u64::MAX;
 /// The bits of a subnormal: no exponent.
 const SUBNORMAL_BITS: u64 = 0x800f_ffff_ffff_ffff;
 
-/// How many of the drawn sizes are the largest, any, or of middle size.
+/// One in so many sizes and orders is the largest; of the others most are small.
 const ONE_IN: usize = 256;
-const MIDDLE: usize = 64;
+const SOME: usize = 64;
 const FEW: usize = 6;
 
 /// Floats of one size, with signs that are drawn.
@@ -101,7 +101,7 @@ pub fn size(random: &mut Random, most: usize) -> usize {
     match random.below(ONE_IN) {
         0 => most,
         1 => random.below(most + 1),
-        2..16 => random.below(most.min(MIDDLE) + 1),
+        2..16 => random.below(most.min(SOME) + 1),
         _ => 1 + random.below(most.min(FEW)),
     }
 }

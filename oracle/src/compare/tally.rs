@@ -96,7 +96,8 @@ impl Tally {
         });
     }
 
-    /// Prints the line of a call, and its first difference, with the bytes that the program was given.
+    /// Prints the line of a call, and its first difference with the bytes that ask for it again.
+    /// Cases are counted from 1.
     pub fn print(&self, name: &str) {
         let (cases, different) = (self.cases, self.different);
         let equal = cases - different;

@@ -1,14 +1,11 @@
 # shellcheck shell=sh
-# Finds the Rust text for the script that takes this file in. That sets first its $name, the $root of
-# the repository, and $fault, the status to end with where there is no text.
+# Finds the Rust text for the script that takes this file in. That sets first its $name, and
+# $fault, the status to end with where there is no text.
 
-: "${name:?}" "${root:?}" "${fault:?}"
+: "${name:?}" "${fault:?}"
 if [ -z "${FERREUS_SRC:-}" ]; then
-    FERREUS_SRC=$root/../shared/docs/src/ferreus_bbfmm/src
-    if [ ! -d "$FERREUS_SRC" ]; then
-        echo "$name: set FERREUS_SRC to the folder that holds chebyshev.rs" >&2
-        exit "$fault"
-    fi
+    echo "$name: set FERREUS_SRC to the folder that holds chebyshev.rs" >&2
+    exit "$fault"
 fi
 if [ ! -d "$FERREUS_SRC" ]; then
     echo "$name: FERREUS_SRC names no folder: $FERREUS_SRC" >&2

@@ -13,10 +13,12 @@ use Rattle.common.specs.Floats.{times}
 use Rattle.common.specs.Refusals.{left}
 use Rattle.common.proofs.Cases.{by-bool}
 use Rattle.common.proofs.Limits.{left-done, left-refused}
-use Rattle.aca.specs.Argmax.{counts}
-use Rattle.aca.specs.Crosses.{unread}
-use Rattle.aca.specs.Runs.{run, begin, report, Memory, laid, blockOf, fits, acaNumber, start, approximation, answered, call, acaCall}
-use Rattle.aca.specs.Standing.{Marks, Begun, ran, Ran}
+use Rattle.lines.specs.Largest.{counts}
+use Rattle.steps.specs.Crosses.{unread}
+use Rattle.steps.specs.Memories.{Memory, laid, blockOf}
+use Rattle.aca.specs.Runs.{run, begin, report, lengths, fits, acaNumber, start, approximation, answered, call, acaCall}
+use Rattle.steps.specs.Standing.{Marks}
+use Rattle.aca.specs.Working.{Begun, ran, Ran}
 use Rattle.aca.specs.declared.Report.{Report}
 use Rattle.aca.specs.declared.Approximation.the-variants.{Refused, Done}
 
@@ -41,12 +43,12 @@ record Fitting (m n : ℕ) (a : List Float) (t : Memory) : Type 0 where
 both : (p q : Bool) → p && q ≡ true → (p ≡ true) × (q ≡ true)
 both p q = and-eq-true-iff p q .0
 
-fitting : (m n : ℕ) (a : List Float) (t : Memory) → acaNumber m n a t ≡ 0 → Fitting m n a t
+fitting : (m n : ℕ) (a : List Float) (t : Memory) → acaNumber m n (lengths a t) ≡ 0 → Fitting m n a t
 unfolding acaNumber fits
 fitting m n a t =
     by-bool (leb m 1024 && leb n 1024)
     (λ e. rw e
-    (by-bool (fits m n a t)
+    (by-bool (fits m n (lengths a t))
     (λ f. rw f λ _.
     let c = both _ _ e in
     let f1 = both _ _ f in
@@ -73,7 +75,7 @@ answered-refused : (number : ℕ) (r : Report) → (number ≡ 0 → ⊥) → an
 answered-refused zero r h = absurd (h refl)
 answered-refused (suc n) r h = refl
 
-module _ (m n : ℕ) (a : List Float) (epsilon : Float) (t : Memory) (number : ℕ) (e : number ≡ acaNumber m n a t) where
+module _ (m n : ℕ) (a : List Float) (epsilon : Float) (t : Memory) (number : ℕ) (e : number ≡ acaNumber m n (lengths a t)) where
   pub refused : (number ≡ 0 → ⊥) → call (Refused number) t ≡ acaCall m n a epsilon t
   unfolding acaCall
   refused h =

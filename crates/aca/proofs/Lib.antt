@@ -1,9 +1,3 @@
-pub mod Largest
-pub mod Tails
-pub mod Lines
-pub mod Fronts
-pub mod Marked
-pub mod OneStep
 pub mod Repeated
 pub mod Answers
 pub mod Determined

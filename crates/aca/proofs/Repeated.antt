@@ -11,15 +11,18 @@ use Rattle.common.specs.Floats.{times}
 use Rattle.common.proofs.Cases.{by-bool}
 use Rattle.common.proofs.Fill.{length-tabulate}
 use Rattle.common.proofs.Matrices.{next-column, column-fits}
-use Rattle.aca.specs.Argmax.{size, argmax}
-use Rattle.aca.specs.Crosses.{usedUp, Block, Found, residual, scaled, unread, rowRead, columnRead, norm, cross, grown, tiny₆₄, judged, Outcome, stored, accepted, tried, step}
-use Rattle.aca.specs.Runs.{Finish, finish, after, run, begin, reported, report, Memory, laid, blockOf, start}
-use Rattle.aca.specs.Standing.{standing, Marks, Ready, made, Stepped, Begun, ran, Ran}
-use Rattle.aca.specs.declared.Progress.{Progress}
-use Rattle.aca.specs.declared.Step.{Step}
-use Rattle.aca.specs.declared.Step.the-variants.{More, Stop}
-use Rattle.aca.proofs.Fronts.{upon-upon, take-upon}
-use Rattle.aca.proofs.Marked.{argmax-in}
+use Rattle.lines.specs.Largest.{size, argmax}
+use Rattle.lines.specs.Lines.{residual, scaled, norm, cross}
+use Rattle.steps.specs.Crosses.{usedUp, Block, Found, unread, rowRead, columnRead, grown, tiny₆₄, judged, Outcome, stored, accepted, tried, step}
+use Rattle.steps.specs.Memories.{Memory, laid, blockOf}
+use Rattle.aca.specs.Runs.{Finish, finish, after, run, begin, reported, report, start}
+use Rattle.steps.specs.Standing.{standing, Marks, Ready, made, Stepped}
+use Rattle.aca.specs.Working.{Begun, ran, Ran}
+use Rattle.steps.specs.declared.Progress.{Progress}
+use Rattle.steps.specs.declared.Step.{Step}
+use Rattle.steps.specs.declared.Step.the-variants.{More, Stop}
+use Rattle.steps.proofs.Fronts.{upon-upon, take-upon}
+use Rattle.steps.proofs.Marked.{argmax-in}
 
 -- HOW MUCH A STEP FINDS
 

@@ -1,6 +1,2 @@
-pub mod Places
-pub mod Argmax
-pub mod Cutoff
-pub mod Crosses
 pub mod Runs
-pub mod Standing
+pub mod Working

@@ -1,35 +1,8 @@
-// Cross approximation: the run with its steps, what it chooses its pivots by, and where singular values are cut off.
-mod advance;
-mod argmax;
-mod block;
-mod cutoff;
-mod reader;
+// Cross approximation: the run of its steps, its limits, and what it tells the caller.
+mod limits;
 mod run;
-mod terms;
 
-pub use argmax::argmax_masked;
-pub use cutoff::calculate_singular_values_cutoff;
 pub use run::aca_partial_pivoting;
-
-// A place in a list, or the number of a refusal.
-pub enum Place {
-    Refused(u8),
-    At(usize),
-}
-
-// What travels from step to step: the estimate of the squared norm, the last cross term, the rank, and the row to read next.
-pub struct Progress {
-    pub estimate: f64,
-    pub cross: f64,
-    pub rank: usize,
-    pub next: usize,
-}
-
-// A step goes on, or it stops for a reason.
-pub enum Step {
-    More(Progress),
-    Stop(u8, Progress),
-}
 
 // What the caller is told of a run.
 pub struct Report {
@@ -43,4 +16,15 @@ pub struct Report {
 pub enum Approximation {
     Refused(u8),
     Done(Report),
+}
+
+// The lengths of the samples and of the lent buffers.
+pub struct Lengths {
+    pub samples: usize,
+    pub u: usize,
+    pub v: usize,
+    pub row_list: usize,
+    pub column_list: usize,
+    pub row: usize,
+    pub column: usize,
 }

@@ -1,14 +1,16 @@
 // Cross approximation of a block: the run of its steps, and the call.
 ghost use mathlib.Core.Path.{_≡_};
-ghost use Prim.Native.Nat.{_≤_, min};
 ghost use lib.ListN.{length};
-ghost use Rattle.aca.specs.Runs.{reported, memory, fits as fitsOf, acaNumber, call, acaCall};
-ghost use Rattle.aca.specs.Standing.{Begun, ran, Ran};
+ghost use Rattle.steps.specs.Memories.{memory};
+ghost use Rattle.aca.specs.Runs.{reported, call, acaCall};
+ghost use Rattle.aca.specs.Working.{Begun, ran, Ran};
 use crate::Approximation;
-use crate::Progress;
+use crate::Lengths;
 use crate::Report;
-use crate::Step;
-use crate::advance::advance;
+use crate::limits::aca_number;
+use steps::Progress;
+use steps::Step;
+use steps::advance;
 
 // Why a run ends where no step stops it: there are as many terms as the block has rows or columns.
 const USED_UP: u8 = 3;
@@ -77,87 +79,6 @@ fn run(
     report(USED_UP, s, most)
 }
 
-fn least(a: usize, b: usize) -> usize
-    ensures { λ r. ⌜ r ≡ min a b ⌝ }
-{
-    if a < b {
-        return a;
-    }
-    b
-}
-
-// Every buffer has its length.
-fn fits(
-    rows: usize,
-    columns: usize,
-    samples: &[f64],
-    u: &[f64],
-    v: &[f64],
-    row_list: &[u16],
-    column_list: &[u16],
-    row: &[f64],
-    column: &[f64],
-) -> bool
-    requires { ⌜ (rows ≤ 1024) × (columns ≤ 1024) ⌝ }
-    ensures { λ r. ⌜ r ≡ fitsOf rows columns (now (samples .entry)) (memory (now (u .entry)) (now (v .entry)) (now («row_list» .entry)) (now («column_list» .entry)) (now (row .entry)) (now (column .entry))) ⌝ }
-{
-    let most = least(rows, columns);
-    if samples.len() != columns * rows {
-        return false;
-    }
-    if u.len() != most * rows {
-        return false;
-    }
-    if v.len() != most * columns {
-        return false;
-    }
-    if row_list.len() != most {
-        return false;
-    }
-    if column_list.len() != most {
-        return false;
-    }
-    if row.len() != columns {
-        return false;
-    }
-    column.len() == rows
-}
-
-fn aca_number(
-    rows: usize,
-    columns: usize,
-    samples: &[f64],
-    u: &[f64],
-    v: &[f64],
-    row_list: &[u16],
-    column_list: &[u16],
-    row: &[f64],
-    column: &[f64],
-) -> u8
-    ensures { λ r. ⌜ r ≡ acaNumber rows columns (now (samples .entry)) (memory (now (u .entry)) (now (v .entry)) (now («row_list» .entry)) (now («column_list» .entry)) (now (row .entry)) (now (column .entry))) ⌝ }
-{
-    if 1024 < rows {
-        return common::NO_COUNT;
-    }
-    if 1024 < columns {
-        return common::NO_COUNT;
-    }
-    if fits(
-        rows,
-        columns,
-        samples,
-        u,
-        v,
-        row_list,
-        column_list,
-        row,
-        column,
-    ) {
-        return 0;
-    }
-    common::WRONG_LENGTH
-}
-
 // The block as a sum of products of columns, U by V, up to the tolerance epsilon; and the rows and columns that were read for it.
 pub fn aca_partial_pivoting(
     rows: usize,
@@ -174,17 +95,16 @@ pub fn aca_partial_pivoting(
     ensures { λ r. ⌜ call r (memory (now (u .exit)) (now (v .exit)) (now («row_list» .exit)) (now («column_list» .exit)) (now (row .exit)) (now (column .exit)))
         ≡ acaCall rows columns (now (samples .entry)) epsilon (memory (now (u .entry)) (now (v .entry)) (now («row_list» .entry)) (now («column_list» .entry)) (now (row .entry)) (now (column .entry))) ⌝ }
 {
-    let number = aca_number(
-        rows,
-        columns,
-        samples,
-        u,
-        v,
-        row_list,
-        column_list,
-        row,
-        column,
-    );
+    let lent = Lengths {
+        samples: samples.len(),
+        u: u.len(),
+        v: v.len(),
+        row_list: row_list.len(),
+        column_list: column_list.len(),
+        row: row.len(),
+        column: column.len(),
+    };
+    let number = aca_number(rows, columns, lent);
     if number != 0 {
         return Approximation::Refused(number);
     }

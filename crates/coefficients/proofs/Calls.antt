@@ -11,7 +11,8 @@ use borrow.Author.Tests.{eqb-true, leb-true, le-leb, lt-leb}
 use Rattle.common.specs.Refusals.{sizeIf, isDimension, isOrder, isCell, Shape, shapeNumber}
 use Rattle.common.proofs.Cases.{by-bool, inside-low, inside-high}
 use Rattle.common.proofs.Limits.{shape-out, shape-past, call-refused, call-done}
-use Rattle.coefficients.specs.Coefficients.{lengthsFit, allFinite, coefficientsNumber, Memory, after, coefficientsCall}
+use Rattle.axes.specs.Axes.{allFinite}
+use Rattle.coefficients.specs.Coefficients.{lengthsFit, coefficientsNumber, Memory, after, coefficientsCall}
 use Rattle.coefficients.specs.Working.{Ready}
 
 module _ (D p P : ℕ) (l : Float) (centre points : List Float) (fit : Bool) where

@@ -1,4 +1,3 @@
-pub mod Finite
 pub mod Products
 pub mod Stretches
 pub mod Calls

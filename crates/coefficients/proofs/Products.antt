@@ -1,14 +1,14 @@
 -- Products over the axes, by which axis they start with. Assumes nothing.
 use mathlib.Core.Path.{_≡_, refl, sym, ap, _∙_}
 use mathlib.Core.List.{List}
-use Prim.Native.Nat.{ℕ, zero, suc, _+_, _-_, _*_, _/_, _^_, _<_, _≤_}
+use Prim.Native.Nat.{ℕ, zero, suc, _+_, _*_, _/_, _^_, _<_, _≤_}
 use native.Mathlib.Nat.{add-mul, add-zero, zero-add, zero-mul, mul-zero, mod-eq-of-lt}
 use native.Mathlib.Numerals.{add-one}
 use native.Mathlib.Omega.{arith}
 use lib.Arith.{digits-div, digits-mod, digits-lt}
 use lib.Dec.{eqb}
 use lib.Ieee.{Float, nan}
-use lib.ListN.{length, take, drop, getD}
+use lib.ListN.{length, getD}
 use borrow.Author.Tests.{eq-eqb, ne-eqb}
 use Rattle.common.specs.Digits.{digit}
 use Rattle.common.specs.Floats.{times, one₆₄}
@@ -19,6 +19,7 @@ use Rattle.common.proofs.Digits.{digit-last, digit-before, digit-below}
 use Rattle.common.proofs.Fill.{part-read, fill-read, stretch-length}
 use Rattle.common.proofs.Limits.{power-one}
 use Rattle.common.proofs.Matrices.{column-fits, column-cong, by-entries}
+use Rattle.axes.proofs.Stretches.{part}
 use Rattle.coefficients.specs.Coefficients.{products, others}
 use Rattle.coefficients.specs.Working.{secondAxis, thirdAxis, placeOf, stepOf, strided, Within, productOf}
 
@@ -82,10 +83,6 @@ first-index D p g n d l h =
     rw (d, zero) (digit-last p 0 n ∙ mod-eq-of-lt h)
 
 -- A LEAD: nodes lead * p + n for n below p, which differ on the last axis only
-
--- the n entries of a list from place `at` on, as they are lent
-abbrev pub part : (list : List Float) (at n : ℕ) → List Float
-part list at n = take (at + n - at) (drop at list)
 
 module _ (p P lead : ℕ) (some : 1 ≤ p) where
   -- a node's index on an axis, times the rows, from that of the lead's first node

@@ -19,10 +19,12 @@ use Rattle.common.proofs.Digits.{digit-below}
 use Rattle.common.proofs.Fill.{stretch-length, fill-read, fill-after}
 use Rattle.common.proofs.Matrices.{some-rows, column-length, column-entry, column-cong, by-entries}
 use Rattle.chebyshev.proofs.Calls.{none}
-use Rattle.coefficients.specs.Coefficients.{S, S′, coordinate, factor, value, gradient, factorAfter, after}
+use Rattle.axes.specs.Axes.{S, S′}
+use Rattle.coefficients.specs.Coefficients.{coordinate, factor, value, gradient, factorAfter, after}
 use Rattle.coefficients.specs.Working.{placeOf, productOf, gradientOf}
 use Rattle.coefficients.proofs.Products.{products-at, others-cong}
-use Rattle.coefficients.proofs.Stretches.{onAxes, scaledAt, axis-side}
+use Rattle.axes.proofs.Stretches.{onAxes, scaledAt}
+use Rattle.coefficients.proofs.Stretches.{axis-side}
 
 -- a list that is empty unless it is wanted
 pub emptied : (with : Bool) (n : ℕ) (x y l : List Float) → length l ≡ sizeIf with n → x ≡ cond with y l → x ≡ cond with y []

@@ -4,32 +4,13 @@ use mathlib.Core.List.{List, []}
 use Prim.Native.Nat.{ℕ, zero, suc, _+_, _*_, _/_, _%_, _^_}
 use lib.Dec.{ltb, leb, eqb}
 use lib.Ieee.{Float, nan}
-use lib.Ieee.Scale.{finite}
 use lib.ListN.{length, getD}
 use Rattle.common.specs.Digits.{digit}
-use Rattle.common.specs.Floats.{minus, times, over, one₆₄, two₆₄, half₆₄, float, sums}
+use Rattle.common.specs.Floats.{times, one₆₄}
 use Rattle.common.specs.Matrices.{columnMajor}
 use Rattle.common.specs.Refusals.{noDimension, noOrder, noCount, wrongLength, noCell, notFinite, sizeIf, unless, isDimension, isOrder, isCell, left}
 use Rattle.common.specs.Tests.{each}
-use Rattle.chebyshev.specs.Polynomials.{T, T′, nodeT}
-
--- a physical coordinate in a cell becomes a reference coordinate: (point - centre)/(length*0.5)
-unfoldable pub scaled : (length centre point : Float) → Float
-scaled l centre point = over (minus point centre) (times l half₆₄)
-
--- S of a sum: (sum*2 - 1)/p; and S': (sum*(2/p))*(2/length)
-unfoldable pub factorOf : (p : ℕ) → (sum : Float) → Float
-factorOf p sum = over (minus (times sum two₆₄) one₆₄) (float p)
-
-unfoldable pub slopeOf : (p : ℕ) → (length sum : Float) → Float
-slopeOf p l sum = times (times sum (over two₆₄ (float p))) (over two₆₄ l)
-
--- S and S' of node n at a reference coordinate x: the sum is the product of T, or T', at x with T at the node
-unfoldable pub S : (p : ℕ) → (polynomials : List Float) → (n : ℕ) → (x : Float) → Float
-S p polynomials n x = factorOf p (sums p (λ k. times (T k x) (nodeT p polynomials n k)))
-
-unfoldable pub S′ : (p : ℕ) → (length : Float) → (polynomials : List Float) → (n : ℕ) → (x : Float) → Float
-S′ p l polynomials n x = slopeOf p l (sums p (λ k. times (T′ k x) (nodeT p polynomials n k)))
+use Rattle.axes.specs.Axes.{scaled, allFinite, S, S′}
 
 -- 1 times f 0, times f 1, .. times f (n - 1)
 unfoldable pub products : (n : ℕ) → (ℕ → Float) → Float
@@ -94,9 +75,6 @@ unfoldable pub lengthsFit : (D p P : ℕ) → (with : Bool) → (n c t v g f d :
 lengthsFit D p P with n c t v g f d =
     eqb n (D * P) && (eqb c D && (eqb t (p * p) && (eqb v (p ^ D * P) && (eqb g (sizeIf with (D * p ^ D * P)) &&
     (eqb f (D * p * P) && eqb d (sizeIf with (D * p * P)))))))
-
-unfoldable pub allFinite : List Float → Bool
-allFinite list = each (length list) (λ i. finite (getD list i nan))
 
 unfoldable pub coefficientsNumber : (D p P : ℕ) → (length : Float) → (centre points : List Float) → (fit : Bool) → ℕ
 coefficientsNumber D p P l centre points fit =

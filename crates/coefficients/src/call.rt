@@ -3,14 +3,14 @@ ghost use mathlib.Core.Path.{_≡_};
 ghost use lib.ListN.{length as size};
 ghost use Rattle.coefficients.specs.Coefficients.{after, coefficientsCall};
 ghost use Rattle.coefficients.specs.Working.{Ready};
-use crate::cell::Cell;
 use crate::columns::fill_gradients;
 use crate::columns::fill_values;
-use crate::coordinates::scale_points;
-use crate::factors::fill_axes;
-use crate::factors::start_values;
 use crate::limits::Lengths;
 use crate::limits::coefficients_number;
+use axes::Cell;
+use axes::fill_axes;
+use axes::scale_points;
+use axes::start_values;
 
 fn fill_coefficients(
     cell: Cell,

@@ -10,7 +10,7 @@ ghost use Rattle.common.specs.Lists.{tabulate};
 ghost use Rattle.common.specs.Matrices.{columnMajor};
 ghost use Rattle.common.specs.Refusals.{Shape, sizeIf};
 ghost use Rattle.coefficients.specs.Working.{secondAxis, thirdAxis, placeOf, stepOf, strided, Within, productOf, gradientOf};
-use crate::cell::Cell;
+use axes::Cell;
 
 // A node's index on an axis.
 fn index_on(dimension: usize, order: usize, axis: usize, node: usize) -> usize

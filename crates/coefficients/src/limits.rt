@@ -3,8 +3,8 @@ ghost use mathlib.Core.Path.{_≡_};
 ghost use Prim.Native.Nat.{_≤_};
 ghost use Rattle.common.specs.Refusals.{Shape};
 ghost use Rattle.coefficients.specs.Coefficients.{lengthsFit, coefficientsNumber};
-use crate::cell::Cell;
-use crate::coordinates::all_finite;
+use axes::Cell;
+use axes::all_finite;
 
 // The lengths of the lent buffers.
 pub(crate) struct Lengths {

@@ -14,10 +14,13 @@ use Rattle.turn.specs.Tables.{tableNumber, tableCall}
 use Rattle.turn.specs.LookUps.{lookUpNumber, entryOf, lookUp}
 use Rattle.chebyshev.specs.Polynomials.{T, T′, polynomialsNumber, polynomialsCall}
 use Rattle.transfer.specs.Tensor.{passed, along, ends, transferNumber, transferred, transferCall}
-use Rattle.aca.specs.Argmax.{size, best, argmax, counts, isMask, argmaxNumber, argmaxCall}
-use Rattle.aca.specs.Crosses.{residual, scaled, unread, rowRead, columnRead, inner, norm, cross, grown, judged, stored, accepted, tried, step}
-use Rattle.aca.specs.Cutoff.{squares, firstBelow, cutoff, cutoffNumber, cutoffCall}
-use Rattle.aca.specs.Runs.{after, run, report, laid, fits, acaNumber, approximation, acaCall}
+use Rattle.lines.specs.Largest.{size, best, argmax, counts}
+use Rattle.choices.specs.Argmax.{isMask, argmaxNumber, argmaxCall}
+use Rattle.lines.specs.Lines.{residual, scaled, inner, norm, cross}
+use Rattle.steps.specs.Crosses.{unread, rowRead, columnRead, grown, judged, stored, accepted, tried, step}
+use Rattle.choices.specs.Cutoff.{squares, firstBelow, cutoff, cutoffNumber, cutoffCall}
+use Rattle.steps.specs.Memories.{laid}
+use Rattle.aca.specs.Runs.{after, run, report, fits, acaNumber, approximation, acaCall}
 use Rattle.fixed.specs.Results.{Fixed}
 
 pub fixed : Fixed

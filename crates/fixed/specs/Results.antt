@@ -12,10 +12,11 @@ use Rattle.turn.specs.Turned.{turned, returned}
 use Rattle.turn.specs.declared.LookUp.the-variants as look
 use Rattle.chebyshev.specs.Polynomials.{polynomialsCall}
 use Rattle.transfer.specs.Tensor.{transferCall}
-use Rattle.aca.specs.Argmax.{argmaxCall}
-use Rattle.aca.specs.Cutoff.{cutoffCall}
-use Rattle.aca.specs.Runs.{Memory, memory, call, acaCall}
-use Rattle.aca.specs.declared.Place.the-variants.{At}
+use Rattle.choices.specs.Argmax.{argmaxCall}
+use Rattle.choices.specs.Cutoff.{cutoffCall}
+use Rattle.steps.specs.Memories.{Memory, memory}
+use Rattle.aca.specs.Runs.{call, acaCall}
+use Rattle.choices.specs.declared.Place.the-variants.{At}
 use Rattle.aca.specs.declared.Approximation.the-variants.{Done}
 
 -- lists of two, three and four

@@ -4,7 +4,7 @@ use crate::counts::report;
 use crate::sizes::lent;
 use crate::sizes::one_less;
 use crate::sizes::up_to;
-use aca::Place;
+use choices::Place;
 
 // Six counts of entries, four lengths of the mask, and four bytes at its first or its last place.
 pub fn walk_argmax() {
@@ -48,7 +48,7 @@ fn set_byte(mask: &mut [u8; 2002], at: usize, byte: u8) {
 
 fn call_argmax(counts: &mut [u64; 14], byte: u8, entries: &[f64], mask: &[u8]) {
     let expected = argmax_expected(entries.len(), mask.len(), byte);
-    let number = number_of(aca::argmax_masked(entries, mask));
+    let number = number_of(choices::argmax_masked(entries, mask));
     note(counts, expected, number, true);
 }
 
@@ -108,7 +108,7 @@ fn lend_values(counts: &mut [u64; 14], k: usize) {
 
 fn call_cutoff(counts: &mut [u64; 14], epsilon: f64, values: &[f64]) {
     let expected = cutoff_expected(values.len());
-    let number = number_of(aca::calculate_singular_values_cutoff(values, epsilon));
+    let number = number_of(choices::calculate_singular_values_cutoff(values, epsilon));
     note(counts, expected, number, true);
 }
 

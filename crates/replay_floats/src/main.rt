@@ -2,21 +2,21 @@
 mod blocks;
 mod case;
 mod cells;
-mod choices;
 mod crosses;
 mod float;
 mod line;
 mod operators;
+mod pivots;
 mod placed;
 mod polynomials;
 mod size;
 
 use blocks::replay_block;
 use cells::replay_coefficients;
-use choices::replay_argmax;
-use choices::replay_cutoff;
 use crosses::replay_cross;
 use operators::replay_operators;
+use pivots::replay_argmax;
+use pivots::replay_cutoff;
 use placed::replay_sources;
 use placed::replay_targets;
 use polynomials::replay_nodes;

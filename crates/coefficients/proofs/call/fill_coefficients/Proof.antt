@@ -4,7 +4,8 @@ use mathlib.Core.Path.{_∙_}
 use Prim.Native.Nat.{_*_, _^_}
 use native.Mathlib.Nat.{mul-le-mul}
 use native.Mathlib.Omega.{arith}
-use Rattle.coefficients.proofs.Stretches.{axis-side, nodes-side, wanted-fits}
+use Rattle.axes.proofs.Stretches.{wanted-fits}
+use Rattle.coefficients.proofs.Stretches.{axis-side, nodes-side}
 use Rattle.coefficients.proofs.Result.{memory-right}
 use Rattle.coefficients.proofs.call.fill_coefficients.Statement.{statement}
 use Rattle.coefficients.proofs.call.fill_coefficients.Tie as tie

@@ -12,7 +12,7 @@ use Rattle.common.proofs.Fill.{part-length, part-read}
 use Rattle.common.proofs.Matrices.{next-column, columns-filled}
 use Rattle.common.proofs.Steps.{Stepping, stepping-none, stepping-fits, stepping-done}
 use Rattle.coefficients.specs.Working.{strided}
-use Rattle.coefficients.proofs.Products.{part}
+use Rattle.axes.proofs.Stretches.{part}
 use Rattle.coefficients.proofs.Stretches.{column-lent}
 use Rattle.coefficients.proofs.columns.fill_two.Statement.{statement}
 use Rattle.coefficients.proofs.columns.fill_two.Tie as tie

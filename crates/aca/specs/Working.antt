@@ -1,0 +1,27 @@
+-- How the loop of the run stands for the rule's run.
+use Prim.Native.Nat.{ℕ, _≤_}
+use mathlib.Core.Path.{_≡_}
+use mathlib.Core.List.{List, []}
+use lib.Ieee.{Float}
+use lib.ListN.{length}
+use Rattle.steps.specs.Memories.{Memory, laid, blockOf}
+use Rattle.steps.specs.Standing.{Marks, Sizes}
+use Rattle.aca.specs.Runs.{Finish, run, begin, report, start}
+use Rattle.aca.specs.declared.Report.{Report}
+
+-- a run that begins: its lists have no more places than the block has rows or columns, and nothing is read
+pub record Begun (samples : ℕ) (t : Memory) (rows columns : List ℕ) : Type 0 where
+  pub sizes : Sizes samples t
+  pub short : length (t .«row-list») ≤ length (t .column)
+  pub narrow : length (t .«row-list») ≤ length (t .row)
+  pub rows-marked : Marks rows []
+  pub columns-marked : Marks columns []
+
+-- the run of the rule, of as many steps as the lists have places
+abbrev pub ran : (samples : List Float) → (tolerance : Float) → Memory → Finish
+ran a tolerance t = run (length (t .«row-list»)) (blockOf (length (t .column)) (length (t .row)) a) tolerance begin (start t)
+
+-- a run in memory: it reports what the rule's does, and leaves what that found
+pub record Ran (e : Finish) (t : Memory) (told : Report) (after : Memory) : Type 0 where
+  pub report-is : told ≡ report e
+  pub memory-is : after ≡ laid (e .found) t

@@ -1,0 +1,57 @@
+// The refusals of the cross approximation's call.
+ghost use mathlib.Core.Path.{_≡_};
+ghost use Prim.Native.Nat.{_≤_, min};
+ghost use Rattle.aca.specs.Runs.{fits as fitsOf, acaNumber};
+use crate::Lengths;
+
+fn least(a: usize, b: usize) -> usize
+    ensures { λ r. ⌜ r ≡ min a b ⌝ }
+{
+    if a < b {
+        return a;
+    }
+    b
+}
+
+// Every buffer has its length.
+fn fits(rows: usize, columns: usize, lent: Lengths) -> bool
+    requires { ⌜ (rows ≤ 1024) × (columns ≤ 1024) ⌝ }
+    ensures { λ r. ⌜ r ≡ fitsOf rows columns lent ⌝ }
+{
+    let most = least(rows, columns);
+    if lent.samples != columns * rows {
+        return false;
+    }
+    if lent.u != most * rows {
+        return false;
+    }
+    if lent.v != most * columns {
+        return false;
+    }
+    if lent.row_list != most {
+        return false;
+    }
+    if lent.column_list != most {
+        return false;
+    }
+    if lent.row != columns {
+        return false;
+    }
+    lent.column == rows
+}
+
+// The lowest refusal, or 0.
+pub(crate) fn aca_number(rows: usize, columns: usize, lent: Lengths) -> u8
+    ensures { λ r. ⌜ r ≡ acaNumber rows columns lent ⌝ }
+{
+    if 1024 < rows {
+        return common::NO_COUNT;
+    }
+    if 1024 < columns {
+        return common::NO_COUNT;
+    }
+    if fits(rows, columns, lent) {
+        return 0;
+    }
+    common::WRONG_LENGTH
+}

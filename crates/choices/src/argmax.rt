@@ -1,0 +1,35 @@
+// Masked argmax: the limits of the call, around the search itself.
+ghost use mathlib.Core.Path.{_≡_};
+ghost use Rattle.choices.specs.Argmax.{isMask, argmaxCall};
+use crate::Place;
+
+// Every byte is 0 or 1.
+fn is_mask(mask: &[u8]) -> bool
+    ensures { λ r. ⌜ r ≡ isMask (now (mask .entry)) ⌝ }
+{
+    let mut k = 0;
+    while k < mask.len() {
+        if 1 < mask[k] {
+            return false;
+        }
+        k += 1;
+    }
+    true
+}
+
+// The first place of the largest size among the entries whose byte in the mask is 1; 0 where none has a size above 0.
+pub fn argmax_masked(entries: &[f64], mask: &[u8]) -> Place
+    ensures { λ r. ⌜ r ≡ argmaxCall (now (entries .entry)) (now (mask .entry)) ⌝ }
+{
+    let n = entries.len();
+    if 1024 < n {
+        return Place::Refused(common::NO_COUNT);
+    }
+    if mask.len() != n {
+        return Place::Refused(common::WRONG_LENGTH);
+    }
+    if is_mask(mask) {
+        return Place::At(lines::pick(entries, mask));
+    }
+    Place::Refused(common::NO_MASK)
+}

@@ -1,0 +1,49 @@
+// How many singular values to keep.
+ghost use mathlib.Core.Path.{_≡_};
+ghost use Rattle.choices.specs.Cutoff.{squares, firstBelow, cutoffCall};
+use crate::Place;
+
+// The squares, summed from the end.
+fn sum_squares(values: &[f64]) -> f64
+    ensures { λ r. ⌜ r ≡ squares (now (values .entry)) ⌝ }
+{
+    let mut sum = 0.0;
+    let mut i = values.len();
+    while 0 < i {
+        i -= 1;
+        sum = sum + values[i] * values[i];
+    }
+    sum
+}
+
+// The first place from which on the squares sum up to less than a bound, or the length. From the end, the last found is the first.
+fn first_below(bound: f64, values: &[f64]) -> usize
+    ensures { λ r. ⌜ r ≡ firstBelow bound (now (values .entry)) ⌝ }
+{
+    let mut sum = 0.0;
+    let mut i = values.len();
+    let mut at = i;
+    while 0 < i {
+        i -= 1;
+        sum = sum + values[i] * values[i];
+        if sum < bound {
+            at = i;
+        }
+    }
+    at
+}
+
+// The first place from which on the singular values matter less than the tolerance, by their squares; or how many there are.
+pub fn calculate_singular_values_cutoff(values: &[f64], epsilon: f64) -> Place
+    ensures { λ r. ⌜ r ≡ cutoffCall (now (values .entry)) epsilon ⌝ }
+{
+    let n = values.len();
+    if n == 0 {
+        return Place::Refused(common::NO_COUNT);
+    }
+    if 1024 < n {
+        return Place::Refused(common::NO_COUNT);
+    }
+    let bound = sum_squares(values) * epsilon * epsilon;
+    Place::At(first_below(bound, values))
+}

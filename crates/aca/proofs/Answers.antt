@@ -1,6 +1,6 @@
 -- What the call of cross approximation answers: a refusal, or the run that the lengths allow. Assumes nothing.
 use mathlib.Core.Path.{_≡_, refl, sym, _∙_}
-use mathlib.Core.Bool.{Bool, true, _&&_, and-eq-true-iff}
+use mathlib.Core.Bool.{_&&_, and-eq-true-iff}
 use mathlib.Core.List.{List, []}
 use Prim.Native.Nat.{ℕ, zero, suc, _*_, _≤_, min}
 use native.Mathlib.Nat.{min-le-left, min-le-right}
@@ -11,8 +11,8 @@ use lib.ListN.{length, replicate, getD-replicate}
 use borrow.Author.Tests.{eqb-true, leb-true}
 use Rattle.common.specs.Floats.{times}
 use Rattle.common.specs.Refusals.{left}
-use Rattle.common.proofs.Cases.{by-bool}
-use Rattle.common.proofs.Limits.{left-done, left-refused}
+use Rattle.common.proofs.Cases.{equal-and}
+use Rattle.common.proofs.Limits.{left-done, left-refused, passed}
 use Rattle.lines.specs.Largest.{counts}
 use Rattle.steps.specs.Crosses.{unread}
 use Rattle.steps.specs.Memories.{Memory, laid, blockOf}
@@ -39,37 +39,28 @@ record Fitting (m n : ℕ) (a : List Float) (t : Memory) : Type 0 where
   row-long : length (t .row) ≡ n
   column-long : length (t .column) ≡ m
 
--- both of two tests, and each
-both : (p q : Bool) → p && q ≡ true → (p ≡ true) × (q ≡ true)
-both p q = and-eq-true-iff p q .0
-
 fitting : (m n : ℕ) (a : List Float) (t : Memory) → acaNumber m n (lengths a t) ≡ 0 → Fitting m n a t
 unfolding acaNumber fits
-fitting m n a t =
-    by-bool (leb m 1024 && leb n 1024)
-    (λ e. rw e
-    (by-bool (fits m n (lengths a t))
-    (λ f. rw f λ _.
-    let c = both _ _ e in
-    let f1 = both _ _ f in
-    let f2 = both _ _ (f1 .1) in
-    let f3 = both _ _ (f2 .1) in
-    let f4 = both _ _ (f3 .1) in
-    let f5 = both _ _ (f4 .1) in
-    let f6 = both _ _ (f5 .1) in
+fitting m n a t z =
+    let few = passed (leb m 1024 && leb n 1024) 2 _ z in
+    let c = and-eq-true-iff (leb m 1024) (leb n 1024) .0 (few .0) in
+    let f1 = equal-and (length a) (n * m) _ (passed _ 6 0 (few .1) .0) in
+    let f2 = equal-and (length (t .us)) (min m n * m) _ (f1 .1) in
+    let f3 = equal-and (length (t .vs)) (min m n * n) _ (f2 .1) in
+    let f4 = equal-and (length (t .«row-list»)) (min m n) _ (f3 .1) in
+    let f5 = equal-and (length (t .«column-list»)) (min m n) _ (f4 .1) in
+    let f6 = equal-and (length (t .row)) n _ (f5 .1) in
     record {
       tall = leb-true m 1024 (c .0);
       wide = leb-true n 1024 (c .1);
-      samples-long = eqb-true _ _ (f1 .0);
-      us-long = eqb-true _ _ (f2 .0);
-      vs-long = eqb-true _ _ (f3 .0);
-      rows-long = eqb-true _ _ (f4 .0);
-      columns-long = eqb-true _ _ (f5 .0);
-      row-long = eqb-true _ _ (f6 .0);
+      samples-long = f1 .0;
+      us-long = f2 .0;
+      vs-long = f3 .0;
+      rows-long = f4 .0;
+      columns-long = f5 .0;
+      row-long = f6 .0;
       column-long = eqb-true _ _ (f6 .1);
-    })
-    (λ f. rw f λ z. absurd (omega arith))))
-    (λ e. rw e λ z. absurd (omega arith))
+    }
 
 answered-refused : (number : ℕ) (r : Report) → (number ≡ 0 → ⊥) → answered number r ≡ Refused number
 answered-refused zero r h = absurd (h refl)

@@ -1,24 +1,15 @@
 // The refusals of the cross approximation's call.
 ghost use mathlib.Core.Path.{_≡_};
-ghost use Prim.Native.Nat.{_≤_, min};
+ghost use Prim.Native.Nat.{_≤_};
 ghost use Rattle.aca.specs.Runs.{fits as fitsOf, acaNumber};
 use crate::Lengths;
-
-fn least(a: usize, b: usize) -> usize
-    ensures { λ r. ⌜ r ≡ min a b ⌝ }
-{
-    if a < b {
-        return a;
-    }
-    b
-}
 
 // Every buffer has its length.
 fn fits(rows: usize, columns: usize, lent: Lengths) -> bool
     requires { ⌜ (rows ≤ 1024) × (columns ≤ 1024) ⌝ }
     ensures { λ r. ⌜ r ≡ fitsOf rows columns lent ⌝ }
 {
-    let most = least(rows, columns);
+    let most = common::least(rows, columns);
     if lent.samples != columns * rows {
         return false;
     }

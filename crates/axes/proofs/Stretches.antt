@@ -16,8 +16,9 @@ use Rattle.common.proofs.Fill.{stretch-none, fill-after, part-read, stretch-ins
 use Rattle.common.proofs.Matrices.{some-rows, column-fits, cell-at, cell-block, column-entry, columns-filled}
 use Rattle.common.proofs.Steps.{Stepping, stepping-more}
 use Rattle.common.proofs.Sums.{sums-cong}
-use Rattle.chebyshev.specs.Polynomials.{atPoints, nodeT}
-use Rattle.axes.specs.Axes.{scaled}
+use Rattle.common.specs.Matrices.{matrix}
+use Rattle.chebyshev.specs.Polynomials.{atPoints}
+use Rattle.axes.specs.Axes.{scaled, coordinate}
 use Rattle.axes.specs.Working.{sumOf}
 
 -- the n entries of a list from place `at` on, as they are lent
@@ -27,30 +28,27 @@ part list at n = take (at + n - at) (drop at list)
 -- THE POINTS, scaled axis by axis in place
 
 module _ (D P : ℕ) (l : Float) (centre before : List Float) where
-  abbrev pub scaledAt : (i a : ℕ) → Float
-  scaledAt i a = scaled l (getD centre a nan) (getD before (a * P + i) nan)
-
-  pub axis-scaled : length before ≡ D * P → (now next : List Float) (axis at : ℕ) → Stepping 0 D P (cell P scaledAt) before now axis at → axis < D →
-      next ≡ stretch at P (λ i. scaled l (getD centre axis nan) (getD now (at + i) nan)) now → Stepping 0 D P (cell P scaledAt) before next (axis + 1) (at + P)
+  pub axis-scaled : length before ≡ D * P → (now next : List Float) (axis at : ℕ) → Stepping 0 D P (cell P (coordinate P l centre before)) before now axis at → axis < D →
+      next ≡ stretch at P (λ i. scaled l (getD centre axis nan) (getD now (at + i) nan)) now → Stepping 0 D P (cell P (coordinate P l centre before)) before next (axis + 1) (at + P)
   axis-scaled whole now next axis at h m e =
       let place : at ≡ axis * P = h .place ∙ zero-add (axis * P) in
       let fits = column-fits axis D P (axis * P) m refl in
       let here : (i : ℕ) → getD now (at + i) nan ≡ getD before (axis * P + i) nan =
-      λ i. rw (place, h .made) (fill-after (axis * P) (cell P scaledAt) before i nan (omega arith)) in
-      stepping-more 0 D P (cell P scaledAt) before now next axis at _ h m (omega arith)
-      (λ i b. rw (here i) (sym (cell-at P scaledAt i axis b))) e
+      λ i. rw (place, h .made) (fill-after (axis * P) (cell P (coordinate P l centre before)) before i nan (omega arith)) in
+      stepping-more 0 D P (cell P (coordinate P l centre before)) before now next axis at _ h m (omega arith)
+      (λ i b. rw (here i) (sym (cell-at P (coordinate P l centre before) i axis b))) e
 
 -- S OF AN AXIS: its sums, finished
 
 module _ (t : ℕ → Float → Float) (finish : Float → Float) (p P : ℕ) (x polynomials : List Float) where
   abbrev pub finished : (i n : ℕ) → Float
-  finished i n = finish (sums p (λ k. times (t k (getD x i nan)) (nodeT p polynomials n k)))
+  finished i n = finish (sums p (λ k. times (t k (getD x i nan)) (matrix p polynomials n k)))
 
   pub axis-finished : (columns l summed next : List Float) (at : ℕ) → columns ≡ atPoints t p P x → at + p * P ≤ length l →
       summed ≡ stretch at (p * P) (cell P (sumOf p P columns polynomials)) l →
       next ≡ stretch at (p * P) (λ k. finish (getD summed (at + k) nan)) summed → next ≡ stretch at (p * P) (cell P finished) l
   axis-finished columns l summed next at c fits s e =
-      let sum : (i n : ℕ) → i < P → sumOf p P columns polynomials i n ≡ sums p (λ k. times (t k (getD x i nan)) (nodeT p polynomials n k)) =
+      let sum : (i n : ℕ) → i < P → sumOf p P columns polynomials i n ≡ sums p (λ k. times (t k (getD x i nan)) (matrix p polynomials n k)) =
       λ i n b. sums-cong p _ _ (λ k m. rw (c, column-entry P (λ r j. t j (getD x r nan)) p i k nan b m)) in
       let entry : (k : ℕ) → k < p * P → finish (getD summed (at + k) nan) ≡ cell P finished k =
       λ k b. ap finish (rw s (stretch-inside at (cell P (sumOf p P columns polynomials)) l (p * P) k nan b (omega arith))

@@ -7,7 +7,7 @@ ghost use lib.ListN.{getD, length as size};
 ghost use Rattle.common.specs.Floats.{over, minus};
 ghost use Rattle.common.specs.Lists.{stretch};
 ghost use Rattle.common.specs.Matrices.{columnMajor};
-ghost use Rattle.axes.specs.Axes.{scaled, allFinite};
+ghost use Rattle.axes.specs.Axes.{scaled, allFinite, coordinate};
 
 struct Physical(f64);
 
@@ -64,7 +64,7 @@ fn scale_axis(rows: usize, length: f64, centre: f64, at: usize, points: &mut [f6
 // All points, in place.
 pub fn scale_points(dimension: usize, rows: usize, length: f64, centre: &[f64], points: &mut [f64])
     requires { ⌜ (dimension ≤ 3) × (size (now centre) ≡ dimension) × (size (now points) ≡ dimension * rows) ⌝ }
-    ensures { λ _. ⌜ now (points .exit) ≡ columnMajor rows dimension (λ i a. scaled length (getD (now (centre .entry)) a nan) (getD (now (points .entry)) (a * rows + i) nan)) ⌝ }
+    ensures { λ _. ⌜ now (points .exit) ≡ columnMajor rows dimension (coordinate rows length (now (centre .entry)) (now (points .entry))) ⌝ }
 {
     let mut axis = 0;
     let mut at = 0;

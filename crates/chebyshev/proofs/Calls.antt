@@ -1,6 +1,6 @@
 -- What the two calls' numbers say, and what the calls then answer and leave. Assumes nothing.
 use mathlib.Core.Path.{_≡_, refl, ap, _∙_}
-use mathlib.Core.Bool.{Bool, true, cond, _&&_, and-eq-true-iff}
+use mathlib.Core.Bool.{Bool, cond}
 use mathlib.Core.List.{List, [], _∷_}
 use Prim.Native.Nat.{ℕ, _*_, _<_, _≤_}
 use native.Mathlib.Omega.{arith}
@@ -9,9 +9,9 @@ use lib.Ieee.{Float}
 use lib.ListN.{length}
 use borrow.Author.Tests.{eqb-true, le-leb, lt-leb, eq-eqb, ne-eqb}
 use Rattle.common.specs.Lists.{tabulate}
-use Rattle.common.specs.Refusals.{sizeIf, isOrder, orderNumber}
-use Rattle.common.proofs.Cases.{by-bool, inside, inside-low, inside-high}
-use Rattle.common.proofs.Limits.{order-in, order-out, left-done, call-refused, call-done, call-refused₂, call-done₂}
+use Rattle.common.specs.Refusals.{sizeIf, orderNumber}
+use Rattle.common.proofs.Cases.{inside, equal-and}
+use Rattle.common.proofs.Limits.{order-in, order-out, left-done, call-refused, call-done, call-refused₂, call-done₂, passed, order-passed}
 use Rattle.chebyshev.specs.Nodes.{node, nodesNumber, nodesCall}
 use Rattle.chebyshev.specs.Polynomials.{T, T′, atPoints, polynomialsNumber, polynomialsCall}
 
@@ -32,12 +32,7 @@ module _ (p n : ℕ) where
 
   pub nodes-accepted : nodesNumber p n ≡ 0 → (1 ≤ p) × (p ≤ 16) × (n ≡ p)
   unfolding nodesNumber
-  nodes-accepted =
-      by-bool (isOrder p)
-      (λ e. rw e (by-bool (eqb n p)
-      (λ e' _. (inside-low 1 16 p e, inside-high 1 16 p e, eqb-true n p e'))
-      (λ e'. rw e' λ z. absurd (omega arith))))
-      (λ e. rw e λ z. absurd (omega arith))
+  nodes-accepted z = let o = order-passed p _ z in (o .0, o .1, eqb-true n p (passed (eqb n p) 6 0 (o .2) .0))
 
 module _ (p : ℕ) (l : List Float) (r : ℕ) (e : r ≡ nodesNumber p (length l)) where
   pub nodes-refused : (r ≡ 0 → ⊥) → (r, l) ≡ nodesCall p l
@@ -85,22 +80,13 @@ module _ (p P : ℕ) (with : Bool) (n v d : ℕ) where
       polynomials-none e e' e'' =
           rw (order-in p ok, le-leb P 4096 few, eq-eqb n P e, eq-eqb v (p * P) e', eq-eqb d (sizeIf with (p * P)) (rw e' at e''))
 
-  lengths : eqb n P && (eqb v (p * P) && eqb d (sizeIf with (p * P))) ≡ true → Lengths p P with n v d
-  lengths h =
-      let one = and-eq-true-iff (eqb n P) (eqb v (p * P) && eqb d (sizeIf with (p * P))) .0 h in
-      let two = and-eq-true-iff (eqb v (p * P)) (eqb d (sizeIf with (p * P))) .0 (one .1) in
-      record { points = eqb-true _ _ (one .0); values = eqb-true _ _ (two .0); slopes = eqb-true _ _ (two .1) }
-
   pub polynomials-accepted : polynomialsNumber p P with n v d ≡ 0 → Lengths p P with n v d
   unfolding polynomialsNumber
-  polynomials-accepted =
-      by-bool (isOrder p)
-      (λ e. rw e (by-bool (leb P 4096)
-      (λ e'. rw e' (by-bool (eqb n P && (eqb v (p * P) && eqb d (sizeIf with (p * P))))
-      (λ e'' _. lengths e'')
-      (λ e''. rw e'' λ z. absurd (omega arith))))
-      (λ e'. rw e' λ z. absurd (omega arith))))
-      (λ e. rw e λ z. absurd (omega arith))
+  polynomials-accepted z =
+      let few = passed (leb P 4096) 2 _ (order-passed p _ z .2) in
+      let a = equal-and n P _ (passed _ 6 0 (few .1) .0) in
+      let b = equal-and v (p * P) _ (a .1) in
+      record { points = a .0; values = b .0; slopes = eqb-true _ _ (b .1) }
 
 -- a list with no entries
 pub none : (l : List Float) → length l ≡ 0 → l ≡ []

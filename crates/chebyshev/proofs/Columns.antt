@@ -13,7 +13,8 @@ use Rattle.common.specs.Matrices.{cell}
 use Rattle.common.proofs.Fill.{fill-on, fill-read}
 use Rattle.common.proofs.Matrices.{next-column, cell-at, column-entry, columns-filled}
 use Rattle.chebyshev.specs.Polynomials.{T, T′, atPoints}
-use Rattle.chebyshev.specs.Working.{nextT, nextT′, columnT, columnT′}
+use Rattle.chebyshev.specs.Polynomials.{nextT, nextT′}
+use Rattle.chebyshev.specs.Working.{columnT, columnT′}
 
 -- from the third column on there are two columns before
 pub two-before : (j rows at : ℕ) → at ≡ j * rows → (j ≡ 0 → ⊥) → (j ≡ 1 → ⊥) → rows + rows ≤ at

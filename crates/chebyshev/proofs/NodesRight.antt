@@ -6,7 +6,7 @@ use Prim.Native.Nat.{ℕ, zero, suc, _<_, _≤_}
 use native.Mathlib.Nat.{not-suc-le-zero}
 use native.Mathlib.Omega.{arith}
 use lib.Dec.{T, ltb}
-use lib.IntN.{ℤ, _+ℤ_, _-ℤ_}
+use lib.IntN.{_+ℤ_, _-ℤ_}
 use lib.Signed.{ltZ, ltZ-yes}
 use lib.Ieee.{Float, nan, ofBits}
 use lib.ListN.{length, getD}

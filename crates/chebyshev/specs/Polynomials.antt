@@ -9,21 +9,25 @@ use Rattle.common.specs.Floats.{plus, minus, times, zero₆₄, one₆₄, two�
 use Rattle.common.specs.Matrices.{columnMajor}
 use Rattle.common.specs.Refusals.{noOrder, noCount, wrongLength, sizeIf, unless, isOrder, left}
 
--- T0 = 1, T1 = x, Tj = (2x)*T(j-1) - T(j-2)
+-- one step of the recurrence, from the two values before: (2x)*T(j-1) - T(j-2)
+abbrev pub nextT : (x t1 t2 : Float) → Float
+nextT x t1 t2 = minus (times (times two₆₄ x) t1) t2
+
+-- T0 = 1, T1 = x
 unfoldable pub T : (j : ℕ) → Float → Float
 T zero x = one₆₄
 T (suc zero) x = x
-T (suc (suc j)) x = minus (times (times two₆₄ x) (T (suc j) x)) (T j x)
+T (suc (suc j)) x = nextT x (T (suc j) x) (T j x)
 
--- derivatives: 0, 1, then ((2*T(j-1)) + ((2x)*T'(j-1))) - T'(j-2)
+-- and of the derivatives: ((2*T(j-1)) + ((2x)*T'(j-1))) - T'(j-2)
+abbrev pub nextT′ : (x t1 d1 d2 : Float) → Float
+nextT′ x t1 d1 d2 = minus (plus (times two₆₄ t1) (times (times two₆₄ x) d1)) d2
+
+-- T'0 = 0, T'1 = 1
 unfoldable pub T′ : (j : ℕ) → Float → Float
 T′ zero x = zero₆₄
 T′ (suc zero) x = one₆₄
-T′ (suc (suc j)) x = minus (plus (times two₆₄ (T (suc j) x)) (times (times two₆₄ x) (T′ (suc j) x))) (T′ j x)
-
--- T k at node i of an order is the lent entry
-abbrev pub nodeT : (p : ℕ) → (polynomials : List Float) → (i k : ℕ) → Float
-nodeT p polynomials i k = getD polynomials (k * p + i) nan
+T′ (suc (suc j)) x = nextT′ x (T (suc j) x) (T′ (suc j) x) (T′ j x)
 
 -- one row a point, one column for each j below the order
 abbrev pub atPoints : (ℕ → Float → Float) → (order rows : ℕ) → (points : List Float) → List Float

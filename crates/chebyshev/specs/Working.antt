@@ -3,14 +3,8 @@ use Prim.Native.Nat.{ℕ, zero, suc, _+_, _-_}
 use mathlib.Core.List.{List}
 use lib.Ieee.{Float, nan}
 use lib.ListN.{getD}
-use Rattle.common.specs.Floats.{plus, minus, times, zero₆₄, one₆₄, two₆₄}
-
--- one step of the recurrence, from the two values before; and of the derivative's
-abbrev pub nextT : (x t1 t2 : Float) → Float
-nextT x t1 t2 = minus (times (times two₆₄ x) t1) t2
-
-abbrev pub nextT′ : (x t1 d1 d2 : Float) → Float
-nextT′ x t1 d1 d2 = minus (plus (times two₆₄ t1) (times (times two₆₄ x) d1)) d2
+use Rattle.common.specs.Floats.{zero₆₄, one₆₄}
+use Rattle.chebyshev.specs.Polynomials.{nextT, nextT′}
 
 -- row i of column j at place `at`, from the columns before it in the same buffer
 unfoldable pub columnT : (j rows : ℕ) → (points values : List Float) → (at i : ℕ) → Float

@@ -4,8 +4,8 @@ ghost use Prim.Native.Nat.{_+_, _*_, _-_, _<_, _≤_};
 ghost use lib.Ieee.{nan};
 ghost use lib.ListN.{length, getD};
 ghost use Rattle.common.specs.Lists.{stretch};
-ghost use Rattle.chebyshev.specs.Polynomials.{T, T′, atPoints, polynomialsNumber, polynomialsCall};
-ghost use Rattle.chebyshev.specs.Working.{nextT, nextT′, columnT, columnT′};
+ghost use Rattle.chebyshev.specs.Polynomials.{nextT, nextT′, T, T′, atPoints, polynomialsNumber, polynomialsCall};
+ghost use Rattle.chebyshev.specs.Working.{columnT, columnT′};
 
 // The next column of T, at place `at`, from the two columns before it.
 fn next_polynomials(rows: usize, points: &[f64], at: usize, tn: &mut [f64])

@@ -1,16 +1,15 @@
 -- What the call's number says, by the tests that lead to it, and what the call then answers and leaves. Assumes nothing.
-use mathlib.Core.Path.{_≡_, refl, sym, _∙_}
-use mathlib.Core.Bool.{Bool, true, false, and-eq-true-iff}
+use mathlib.Core.Path.{_≡_, sym, _∙_}
+use mathlib.Core.Bool.{Bool, true, false}
 use mathlib.Core.List.{List}
 use Prim.Native.Nat.{ℕ, _*_, _^_, _<_, _≤_}
-use native.Mathlib.Omega.{arith}
-use lib.Dec.{leb, eqb}
+use lib.Dec.{leb}
 use lib.Ieee.{Float}
 use lib.ListN.{length}
 use borrow.Author.Tests.{eqb-true, leb-true, le-leb, lt-leb}
-use Rattle.common.specs.Refusals.{sizeIf, isDimension, isOrder, isCell, Shape, shapeNumber}
-use Rattle.common.proofs.Cases.{by-bool, inside-low, inside-high}
-use Rattle.common.proofs.Limits.{shape-out, shape-past, call-refused, call-done}
+use Rattle.common.specs.Refusals.{sizeIf, isCell, Shape, shapeNumber}
+use Rattle.common.proofs.Cases.{equal-and}
+use Rattle.common.proofs.Limits.{shape-out, shape-past, call-refused, call-done, passed, shape-passed}
 use Rattle.axes.specs.Axes.{allFinite}
 use Rattle.coefficients.specs.Coefficients.{lengthsFit, coefficientsNumber, Memory, after, coefficientsCall}
 use Rattle.coefficients.specs.Working.{Ready}
@@ -51,46 +50,31 @@ module _ (D p P : ℕ) (l : Float) (centre points : List Float) (fit : Bool) whe
   -- not refused: the shape, the count and the lengths are right
   pub number-taken : coefficientsNumber D p P l centre points fit ≡ 0 → Shape D p × (P ≤ 4096) × (fit ≡ true)
   unfolding coefficientsNumber
-  number-taken =
-      by-bool (isDimension D)
-      (λ d. rw d (by-bool (isOrder p)
-      (λ o. rw o (by-bool (leb P 4096)
-      (λ c. rw c (by-bool fit
-      (λ f. rw f λ z. (
-        record {
-          dimension-least = inside-low 1 3 D d;
-          dimension-most = inside-high 1 3 D d;
-          order-least = inside-low 1 16 p o;
-          order-most = inside-high 1 16 p o;
-        },
-        leb-true P 4096 c,
-        refl,
-      ))
-      (λ f. rw f λ z. absurd (omega arith))))
-      (λ c. rw c λ z. absurd (omega arith))))
-      (λ o. rw o λ z. absurd (omega arith))))
-      (λ d. rw d λ z. absurd (omega arith))
+  number-taken z =
+      let s = shape-passed D p _ z in
+      let few = passed (leb P 4096) 2 _ (s .1) in
+      (s .0, leb-true P 4096 (few .0), passed fit 6 _ (few .1) .0)
 
 module _ (D p P : ℕ) (with : Bool) (n c t v g f d : ℕ) where
   -- the lengths are as stated
   pub ready : Shape D p → P ≤ 4096 → lengthsFit D p P with n c t v g f d ≡ true → Ready D p P with n c t v g f d
   unfolding lengthsFit
   ready s few h =
-      let one = and-eq-true-iff (eqb n (D * P)) _ .0 h in
-      let two = and-eq-true-iff (eqb c D) _ .0 (one .1) in
-      let three = and-eq-true-iff (eqb t (p * p)) _ .0 (two .1) in
-      let four = and-eq-true-iff (eqb v (p ^ D * P)) _ .0 (three .1) in
-      let five = and-eq-true-iff (eqb g (sizeIf with (D * p ^ D * P))) _ .0 (four .1) in
-      let six = and-eq-true-iff (eqb f (D * p * P)) _ .0 (five .1) in
+      let one = equal-and n (D * P) _ h in
+      let two = equal-and c D _ (one .1) in
+      let three = equal-and t (p * p) _ (two .1) in
+      let four = equal-and v (p ^ D * P) _ (three .1) in
+      let five = equal-and g (sizeIf with (D * p ^ D * P)) _ (four .1) in
+      let six = equal-and f (D * p * P) _ (five .1) in
       record {
         shape = s;
         few = few;
-        points = eqb-true _ _ (one .0);
-        centre = eqb-true _ _ (two .0);
-        polynomials = eqb-true _ _ (three .0);
-        values = eqb-true _ _ (four .0);
-        gradients = eqb-true _ _ (five .0);
-        factors = eqb-true _ _ (six .0);
+        points = one .0;
+        centre = two .0;
+        polynomials = three .0;
+        values = four .0;
+        gradients = five .0;
+        factors = six .0;
         slopes = eqb-true _ _ (six .1);
       }
 

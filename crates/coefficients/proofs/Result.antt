@@ -19,11 +19,11 @@ use Rattle.common.proofs.Digits.{digit-below}
 use Rattle.common.proofs.Fill.{stretch-length, fill-read, fill-after}
 use Rattle.common.proofs.Matrices.{some-rows, column-length, column-entry, column-cong, by-entries}
 use Rattle.chebyshev.proofs.Calls.{none}
-use Rattle.axes.specs.Axes.{S, S′}
-use Rattle.coefficients.specs.Coefficients.{coordinate, factor, value, gradient, factorAfter, after}
+use Rattle.axes.specs.Axes.{coordinate, S, S′}
+use Rattle.coefficients.specs.Coefficients.{factor, value, gradient, factorAfter, after}
 use Rattle.coefficients.specs.Working.{placeOf, productOf, gradientOf}
 use Rattle.coefficients.proofs.Products.{products-at, others-cong}
-use Rattle.axes.proofs.Stretches.{onAxes, scaledAt}
+use Rattle.axes.proofs.Stretches.{onAxes}
 use Rattle.coefficients.proofs.Stretches.{axis-side}
 
 -- a list that is empty unless it is wanted
@@ -38,13 +38,7 @@ if-wanted false x y l h = refl
 
 module _ (D p P : ℕ) (l : Float) (centre t points : List Float) (some : 1 ≤ p) where
   abbrev x : (i a : ℕ) → Float
-  x = coordinate D p P l centre t points
-
-  -- THE POINTS
-
-  pub points-right : (y : List Float) → y ≡ columnMajor P D (scaledAt D P l centre points) → y ≡ columnMajor P D x
-  unfolding coordinate
-  points-right y e = e
+  x = coordinate P l centre points
 
   -- S AND S' of all axes: column c is node c % p of axis c / p
 
@@ -126,7 +120,7 @@ module _ (D p P : ℕ) (l : Float) (centre t points : List Float) (some : 1 ≤ 
 
 module _ (D p P : ℕ) (l : Float) (with : Bool) (centre t points : List Float) (some : 1 ≤ p) (one : 1 ≤ D) where
   pub memory-right : (y v g₀ g f₀ f d₀ d : List Float) →
-      y ≡ columnMajor P D (scaledAt D P l centre points) →
+      y ≡ columnMajor P D (coordinate P l centre points) →
       f₀ ≡ columnMajor P (D * p) (onAxes (S p t) p P y) →
       length d₀ ≡ sizeIf with (D * p * P) → d ≡ cond with (columnMajor P (D * p) (onAxes (S′ p l t) p P y)) d₀ →
       length g₀ ≡ sizeIf with (D * p ^ D * P) → g ≡ cond with (columnMajor P (D * p ^ D) (gradientOf D p P d f₀)) g₀ →
@@ -135,14 +129,13 @@ module _ (D p P : ℕ) (l : Float) (with : Bool) (centre t points : List Float) 
       (y, v, g, f, d) ≡ after D p P l with centre t points
   unfolding after
   memory-right y v g₀ g f₀ f d₀ d hy hf₀ ld hd lg hg hf hv =
-      let py = points-right D p P l centre t points some y hy in
-      let pf₀ = hf₀ ∙ axes-right D p P l centre t points some (S p t) y py in
-      let slopes = columnMajor P (D * p) (λ i c. S′ p l t (c % p) (coordinate D p P l centre t points i (c / p))) in
+      let pf₀ = hf₀ ∙ axes-right D p P l centre t points some (S p t) y hy in
+      let slopes = columnMajor P (D * p) (λ i c. S′ p l t (c % p) (coordinate P l centre points i (c / p))) in
       let pd : d ≡ cond with slopes [] =
-      emptied with _ d slopes d₀ ld (hd ∙ ap (λ (s : List Float). cond with s d₀) (axes-right D p P l centre t points some (S′ p l t) y py)) in
+      emptied with _ d slopes d₀ ld (hd ∙ ap (λ (s : List Float). cond with s d₀) (axes-right D p P l centre t points some (S′ p l t) y hy)) in
       let pg : g ≡ cond with (columnMajor P (D * p ^ D) (gradient D p P l centre t points)) [] =
       emptied with _ g _ g₀ lg (hg ∙ if-wanted with _ _ g₀
       (λ w. gradients-right D p P l centre t points some d f₀ (rw w at pd) pf₀)) in
       let pf = factors-right D p P l centre t points some one f₀ f pf₀ hf in
       let pv = hv ∙ values-right D p P l centre t points some one f₀ f pf₀ hf in
-      rw (py, pv, pg, pf, pd)
+      rw (hy, pv, pg, pf, pd)

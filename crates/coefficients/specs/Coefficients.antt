@@ -3,14 +3,14 @@ use mathlib.Core.Bool.{Bool, cond, _&&_}
 use mathlib.Core.List.{List, []}
 use Prim.Native.Nat.{ℕ, zero, suc, _+_, _*_, _/_, _%_, _^_}
 use lib.Dec.{ltb, leb, eqb}
-use lib.Ieee.{Float, nan}
-use lib.ListN.{length, getD}
+use lib.Ieee.{Float}
+use lib.ListN.{length}
 use Rattle.common.specs.Digits.{digit}
 use Rattle.common.specs.Floats.{times, one₆₄}
 use Rattle.common.specs.Matrices.{columnMajor}
 use Rattle.common.specs.Refusals.{noDimension, noOrder, noCount, wrongLength, noCell, notFinite, sizeIf, unless, isDimension, isOrder, isCell, left}
 use Rattle.common.specs.Tests.{each}
-use Rattle.axes.specs.Axes.{scaled, allFinite, S, S′}
+use Rattle.axes.specs.Axes.{allFinite, coordinate, S, S′}
 
 -- 1 times f 0, times f 1, .. times f (n - 1)
 unfoldable pub products : (n : ℕ) → (ℕ → Float) → Float
@@ -23,16 +23,16 @@ others g v zero f = v
 others g v (suc n) f = cond (eqb n g) (others g v n f) (times (others g v n f) (f n))
 
 module _ (D p P : ℕ) (l : Float) (centre polynomials points : List Float) where
-  -- the reference coordinate of point i on axis a
-  unfoldable pub coordinate : (i a : ℕ) → Float
-  coordinate i a = scaled l (getD centre a nan) (getD points (a * P + i) nan)
+  -- x i a is the reference coordinate of point i on axis a
+  abbrev x : (i a : ℕ) → Float
+  x = coordinate P l centre points
 
   -- S, and S', of point i on axis a, at the index there of the node with number k
   abbrev pub factor : (i k a : ℕ) → Float
-  factor i k a = S p polynomials (digit p D a k) (coordinate i a)
+  factor i k a = S p polynomials (digit p D a k) (x i a)
 
   abbrev pub slope : (i k a : ℕ) → Float
-  slope i k a = S′ p l polynomials (digit p D a k) (coordinate i a)
+  slope i k a = S′ p l polynomials (digit p D a k) (x i a)
 
   -- a value column is 1 times the axis factors in axis order
   unfoldable pub value : (i k : ℕ) → Float
@@ -48,7 +48,7 @@ module _ (D p P : ℕ) (l : Float) (centre polynomials points : List Float) wher
   -- WHAT THE CALL LEAVES: matrices of one row a point
 
   abbrev pub pointsAfter : List Float
-  pointsAfter = columnMajor P D coordinate
+  pointsAfter = columnMajor P D x
 
   abbrev pub valuesAfter : List Float
   valuesAfter = columnMajor P (p ^ D) value
@@ -59,14 +59,14 @@ module _ (D p P : ℕ) (l : Float) (centre polynomials points : List Float) wher
   -- the working buffers: S and S' of all axes, column a*p + n for node n of axis a; S of axis 0 times 1, as the value columns start
   unfoldable pub factorAfter : (i column : ℕ) → Float
   factorAfter i c =
-      let s = S p polynomials (c % p) (coordinate i (c / p)) in
+      let s = S p polynomials (c % p) (x i (c / p)) in
       cond (ltb c p) (times one₆₄ s) s
 
   abbrev pub factorsAfter : List Float
   factorsAfter = columnMajor P (D * p) factorAfter
 
   abbrev pub slopesAfter : (with : Bool) → List Float
-  slopesAfter with = cond with (columnMajor P (D * p) (λ i c. S′ p l polynomials (c % p) (coordinate i (c / p)))) []
+  slopesAfter with = cond with (columnMajor P (D * p) (λ i c. S′ p l polynomials (c % p) (x i (c / p)))) []
 
 -- THE CALL
 

@@ -24,7 +24,7 @@ noCount = 3
 abbrev pub noEntry : ℕ
 noEntry = 4
 
--- a case or a reference number is not below how many there are
+-- a case, a reference number or a child is not below how many there are
 abbrev pub noCase : ℕ
 noCase = 5
 

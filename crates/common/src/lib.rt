@@ -1,6 +1,6 @@
 // What the layers share: limits with their refusal numbers, powers, a column of one value, and the one dot product. Its definitions and laws stand in specs/ and proofs/.
 ghost use mathlib.Core.Path.{_≡_};
-ghost use Prim.Native.Nat.{ℕ, _+_, _*_, _^_, _<_, _≤_};
+ghost use Prim.Native.Nat.{ℕ, _+_, _*_, _^_, _<_, _≤_, min};
 ghost use lib.Ieee.{nan};
 ghost use lib.ListN.{length, getD};
 ghost use Rattle.common.specs.Lists.{stretch};
@@ -32,6 +32,12 @@ pub const NO_MASK: u8 = 10;
 const SHORTEST: f64 = 0.00000095367431640625;
 
 const LONGEST: f64 = 1073741824.0;
+
+pub fn least(a: usize, b: usize) -> usize
+    ensures { λ r. ⌜ r ≡ min a b ⌝ }
+{
+    if a < b { a } else { b }
+}
 
 // The refusal that an order brings, or 0.
 pub fn order_number(order: usize) -> u8
@@ -113,7 +119,7 @@ pub fn fill_with(value: f64, rows: usize, at: usize, column: &mut [f64])
 
 // The first entries of another list in the rows of the column at place `at`.
 pub fn copy_column(rows: usize, source: &[f64], at: usize, column: &mut [f64])
-    requires { ⌜ (length (now source) ≡ rows) × (at + rows ≤ length (now column)) ⌝ }
+    requires { ⌜ (rows ≤ length (now source)) × (at + rows ≤ length (now column)) ⌝ }
     ensures { λ _. ⌜ now (column .exit) ≡ stretch at rows (λ i. getD (now (source .entry)) i nan) (now (column .entry)) ⌝ }
 {
     let mut i = 0;

@@ -1,17 +1,17 @@
 -- What the calls' numbers say, by the tests that lead to them, and what the calls then answer and leave. Assumes nothing.
 use mathlib.Core.Path.{_≡_, refl, sym, _∙_}
-use mathlib.Core.Bool.{true, false, _&&_, and-eq-true-iff}
+use mathlib.Core.Bool.{true, false}
 use mathlib.Core.List.{List}
 use Prim.Native.Nat.{ℕ, zero, suc, _*_, _^_, _<_, _≤_}
 use native.Mathlib.Omega.{arith}
-use lib.Dec.{eqb, ltb}
+use lib.Dec.{ltb}
 use lib.Ieee.{Float}
 use lib.IntN.{pos}
 use lib.ListN.{length}
 use borrow.Author.Tests.{eqb-true, eq-eqb, ne-eqb, lt-ltb}
 use Rattle.common.specs.Refusals.{noCase, unless, isDimension, isCell, Shape, shapeNumber}
-use Rattle.common.proofs.Cases.{by-bool, inside}
-use Rattle.common.proofs.Limits.{shape-out, shape-past, call-refused, call-done}
+use Rattle.common.proofs.Cases.{by-bool, inside, equal-and}
+use Rattle.common.proofs.Limits.{shape-out, shape-past, call-refused, call-done, passed}
 use Rattle.common.proofs.Matrices.{column-cong}
 use Rattle.turn.specs.declared.Vector.{Vector}
 use Rattle.turn.specs.declared.Reference.the-variants.{Refused, Found}
@@ -43,11 +43,9 @@ module _ (D p : ℕ) (l : Float) (n m : ℕ) where
 
   pub sizes-taken : Shape D p → sizesNumber D p l n m ≡ 0 → Ready D p n m
   unfolding sizesNumber
-  sizes-taken s =
-      by-bool (eqb n p && eqb m (D * p ^ D))
-      (λ e _. let both = and-eq-true-iff (eqb n p) (eqb m (D * p ^ D)) .0 e in
-      record { shape = s; given = eqb-true n p (both .0); whole = eqb-true m (D * p ^ D) (both .1) })
-      (λ e. rw e λ z. absurd (omega arith))
+  sizes-taken s z =
+      let a = equal-and n p _ (passed _ 6 _ z .0) in
+      record { shape = s; given = a .0; whole = eqb-true m (D * p ^ D) (a .1) }
 
   -- THE TARGET'S NUMBER
 

@@ -4,24 +4,15 @@ use mathlib.Core.List.{List, [], _∷_, _++_, append-assoc}
 use Prim.Native.Nat.{ℕ, suc, _+_, _-_, _<_, _≤_}
 use native.Mathlib.Numerals.{add-one}
 use native.Mathlib.Omega.{arith}
-use lib.ListN.{length, set, take, drop, getD, length-append, length-drop, take-append-drop}
-use lib.Seq.{length-take-le, split-at, set-at, take-at, drop-at, drop-drop, ext-getD}
-use Rattle.common.specs.Lists.{tabulate, stretch}
-use Rattle.common.proofs.Fill.{length-tabulate, getD-tabulate}
+use lib.ListN.{length, set, take, drop, getD, length-append, take-append-drop}
+use lib.Seq.{length-take-le, split-at, set-at, take-at, drop-at, drop-drop}
+use Rattle.common.specs.Lists.{stretch}
+use Rattle.common.proofs.Fill.{listed}
 use Rattle.steps.specs.Memories.{upon}
 
 module _ {A : Type 0} where
   pub upon-same : (p : ℕ) (t : List A) → p ≤ length t → t ≡ upon (take p t) t
   upon-same p t h = rw (length-take-le p t h) (sym (take-append-drop p t))
-
-  pub upon-length : (l t : List A) → length l ≤ length t → length (upon l t) ≡ length t
-  upon-length l t h = rw (length-append, length-drop) (omega arith)
-
-  -- a list is its entries
-  listed : (x : List A) (n : ℕ) (d : A) → length x ≡ n → tabulate n (λ i. getD x i d) ≡ x
-  listed x n d e =
-      ext-getD d (tabulate n (λ i. getD x i d)) x (length-tabulate n (λ i. getD x i d) ∙ sym e)
-      (λ k b. getD-tabulate n (λ i. getD x i d) k d (rw length-tabulate at b))
 
   head-long : (p : ℕ) (x t : List A) → p ≤ length t → length (take p t ++ x) ≡ p + length x
   head-long p x t h = rw (length-append, length-take-le p t h)

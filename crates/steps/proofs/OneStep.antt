@@ -14,7 +14,9 @@ use Rattle.common.proofs.Fill.{length-tabulate, tabulate-cong}
 use Rattle.common.proofs.Matrices.{column-fits}
 use Rattle.common.proofs.Sums.{sums-cong}
 use Rattle.lines.specs.Largest.{size, argmax, counts}
-use Rattle.lines.specs.Lines.{matrix, residual, scaled, inner, entry, norm, cross}
+use Rattle.common.specs.Floats.{inner}
+use Rattle.common.specs.Matrices.{matrix}
+use Rattle.lines.specs.Lines.{residual, scaled, entry, norm, cross}
 use Rattle.steps.specs.Crosses.{Block, Found, found, unread, rowRead, columnRead, grown, spent, tiny₆₄, judged, outcome, stored, accepted, tried, step}
 use Rattle.steps.specs.Memories.{Memory, memory, laid, blockOf}
 use Rattle.steps.specs.Standing.{standing, Ready, Stepped}
@@ -36,7 +38,6 @@ residual-front n m k i line terms factors h =
     (λ c b. ap (minus (line c)) (sums-cong k _ _ (λ l a. rw (front n k terms c l b a, front m k factors i l h a))))
 
 inner-front : (m k : ℕ) (us u : List Float) (l : ℕ) → l < k → inner m (λ i. matrix m (take (k * m) us) i l) (entry u) ≡ inner m (λ i. matrix m us i l) (entry u)
-unfolding inner
 inner-front m k us u l h = sums-cong m _ _ (λ i b. ap (λ (x : Float). times x (entry u i)) (front m k us i l b h))
 
 cross-front : (k : ℕ) (us vs u v : List Float) → cross k (take (k * length u) us) (take (k * length v) vs) u v ≡ cross k us vs u v

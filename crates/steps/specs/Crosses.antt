@@ -7,7 +7,8 @@ use lib.Ieee.{Float, nan, lt, le, ofBits, binary64}
 use lib.ListN.{getD}
 use Rattle.common.specs.Floats.{plus, times, over, one₆₄, two₆₄}
 use Rattle.lines.specs.Largest.{size, argmax}
-use Rattle.lines.specs.Lines.{matrix, residual, scaled, norm, cross}
+use Rattle.common.specs.Matrices.{matrix}
+use Rattle.lines.specs.Lines.{residual, scaled, norm, cross}
 use Rattle.steps.specs.declared.Progress.{Progress}
 use Rattle.steps.specs.declared.Step.{Step}
 use Rattle.steps.specs.declared.Step.the-variants.{More, Stop}

@@ -3,7 +3,7 @@ use Prim.Native.Nat.{ℕ}
 use mathlib.Core.List.{List, _++_}
 use lib.Ieee.{Float}
 use lib.ListN.{length, drop}
-use Rattle.lines.specs.Lines.{matrix}
+use Rattle.common.specs.Matrices.{matrix}
 use Rattle.steps.specs.Crosses.{Block, Found}
 
 pub record Memory : Type 0 where

@@ -1,18 +1,17 @@
 -- What the two calls' numbers say, and what the calls then answer and leave. Assumes nothing.
 use mathlib.Core.Path.{_≡_, sym, ap, _∙_}
-use mathlib.Core.Bool.{Bool, true, false, cond, _&&_, and-eq-true-iff}
+use mathlib.Core.Bool.{Bool, true, false, cond, _&&_}
 use mathlib.Core.List.{List}
 use Prim.Native.Nat.{ℕ, _+_, _-_, _*_, _^_, _<_, _≤_}
-use native.Mathlib.Omega.{arith}
 use lib.Dec.{ltb, eqb}
 use lib.Ieee.{Float, nan}
 use lib.ListN.{length, getD}
 use borrow.Author.Tests.{eqb-true, lt-ltb, le-ltb, eq-eqb, ne-eqb}
 use Rattle.common.specs.Lists.{stretch}
 use Rattle.common.specs.Matrices.{columnMajor}
-use Rattle.common.specs.Refusals.{isDimension, isOrder, Shape, orderNumber, shapeNumber}
-use Rattle.common.proofs.Cases.{by-bool, inside-low, inside-high}
-use Rattle.common.proofs.Limits.{order-in, order-out, shape-in, shape-out, shape-taken, call-refused, call-done, call-refused₂, call-done₂}
+use Rattle.common.specs.Refusals.{Shape, orderNumber, shapeNumber}
+use Rattle.common.proofs.Cases.{equal-and}
+use Rattle.common.proofs.Limits.{order-in, order-out, shape-in, shape-out, call-refused, call-done, call-refused₂, call-done₂, passed, order-passed, shape-passed}
 use Rattle.transfer.specs.Operators.{operator, operatorsNumber, operatorsCall}
 use Rattle.transfer.specs.Tensor.{along, ends, transferNumber, transferred, transferCall}
 use Rattle.transfer.proofs.Passes.{copied}
@@ -49,26 +48,13 @@ module _ (p n t o : ℕ) where
     unfolding operatorsNumber
     operators-none e e' e'' = rw (order-in p ok, eq-eqb n p e, eq-eqb t (p * p) e', eq-eqb o ((p + p) * p) e'')
 
-  lengths : isOrder p ≡ true → eqb n p && (eqb t (p * p) && eqb o ((p + p) * p)) ≡ true → Lengths p n t o
-  lengths e h =
-      let one = and-eq-true-iff (eqb n p) (eqb t (p * p) && eqb o ((p + p) * p)) .0 h in
-      let two = and-eq-true-iff (eqb t (p * p)) (eqb o ((p + p) * p)) .0 (one .1) in
-      record {
-        order-least = inside-low 1 16 p e;
-        order-most = inside-high 1 16 p e;
-        nodes = eqb-true _ _ (one .0);
-        polynomials = eqb-true _ _ (two .0);
-        operators = eqb-true _ _ (two .1);
-      }
-
   pub operators-accepted : operatorsNumber p n t o ≡ 0 → Lengths p n t o
   unfolding operatorsNumber
-  operators-accepted =
-      by-bool (isOrder p)
-      (λ e. rw e (by-bool (eqb n p && (eqb t (p * p) && eqb o ((p + p) * p)))
-      (λ e' _. lengths e e')
-      (λ e'. rw e' λ z. absurd (omega arith))))
-      (λ e. rw e λ z. absurd (omega arith))
+  operators-accepted z =
+      let order = order-passed p _ z in
+      let a = equal-and n p _ (passed _ 6 0 (order .2) .0) in
+      let b = equal-and t (p * p) _ (a .1) in
+      record { order-least = order .0; order-most = order .1; nodes = a .0; polynomials = b .0; operators = eqb-true _ _ (b .1) }
 
 module _ (p : ℕ) (n t o : List Float) (r : ℕ) (e : r ≡ operatorsNumber p (length n) (length t) (length o)) where
   pub operators-refused : (r ≡ 0 → ⊥) → (r, o) ≡ operatorsCall p n t o
@@ -121,31 +107,15 @@ module _ (D p child i o f s : ℕ) where
       transfer-none ei eo ef es =
           lengths-tested true (rw (eq-eqb i (p ^ D) ei, eq-eqb o ((p + p) * p) eo, eq-eqb f (p ^ D) ef, eq-eqb s (p ^ D) es))
 
-  transfer-lengths : shapeNumber D p ≡ 0 → eqb i (p ^ D) && (eqb o ((p + p) * p) && (eqb f (p ^ D) && eqb s (p ^ D))) ≡ true → Accepted D p child i o f s
-  transfer-lengths ok h =
-      let one = and-eq-true-iff (eqb i (p ^ D)) (eqb o ((p + p) * p) && (eqb f (p ^ D) && eqb s (p ^ D))) .0 h in
-      let two = and-eq-true-iff (eqb o ((p + p) * p)) (eqb f (p ^ D) && eqb s (p ^ D)) .0 (one .1) in
-      let three = and-eq-true-iff (eqb f (p ^ D)) (eqb s (p ^ D)) .0 (two .1) in
-      record {
-        shape = shape-taken D p ok;
-        input = eqb-true _ _ (one .0);
-        operators = eqb-true _ _ (two .0);
-        first = eqb-true _ _ (three .0);
-        second = eqb-true _ _ (three .1);
-      }
-
   pub transfer-accepted : transferNumber D p child i o f s ≡ 0 → Accepted D p child i o f s
-  unfolding transferNumber shapeNumber orderNumber
-  transfer-accepted =
-      by-bool (isDimension D)
-      (λ e1. rw e1 (by-bool (isOrder p)
-      (λ e2. rw e2 (by-bool (ltb child (2 ^ D))
-      (λ e3. rw e3 (by-bool (eqb i (p ^ D) && (eqb o ((p + p) * p) && (eqb f (p ^ D) && eqb s (p ^ D))))
-      (λ e4 _. transfer-lengths (rw (e1, e2)) e4)
-      (λ e4. rw e4 λ z. absurd (omega arith))))
-      (λ e3. rw e3 λ z. absurd (omega arith))))
-      (λ e2. rw e2 λ z. absurd (omega arith))))
-      (λ e1. rw e1 λ z. absurd (omega arith))
+  unfolding transferNumber
+  transfer-accepted z =
+      let shape = shape-passed D p _ z in
+      let child-in = passed (ltb child (2 ^ D)) 4 _ (shape .1) in
+      let a = equal-and i (p ^ D) _ (passed _ 6 0 (child-in .1) .0) in
+      let b = equal-and o ((p + p) * p) _ (a .1) in
+      let c = equal-and f (p ^ D) _ (b .1) in
+      record { shape = shape .0; input = a .0; operators = b .0; first = c .0; second = eqb-true _ _ (c .1) }
 
 module _ (D p child : ℕ) (transpose : Bool) (i o f s : List Float) (r : ℕ) (e : r ≡ transferNumber D p child (length i) (length o) (length f) (length s)) where
   pub transfer-refused : (r ≡ 0 → ⊥) → (r, f, s) ≡ transferCall D p child transpose i o f s

@@ -1,18 +1,19 @@
 -- A pass fills its result row by row, and the passes alternate two buffers. Assumes nothing.
 use mathlib.Core.Path.{_≡_, refl, sym, ap, _∙_}
-use mathlib.Core.List.{List, [], _∷_}
+use mathlib.Core.List.{List}
 use Prim.Native.Nat.{ℕ, zero, suc, _+_, _-_, _*_, _^_, _<_, _≤_}
-use native.Mathlib.Nat.{mul-add, add-mul, mul-one, one-mul, zero-mul, mul-comm, pow-suc}
+use native.Mathlib.Nat.{mul-add, add-mul, mul-one, one-mul, zero-mul, mul-comm}
 use native.Mathlib.Omega.{arith}
 use lib.Ieee.{Float, nan}
 use lib.ListN.{length, getD, take, drop, length-drop}
 use lib.Seq.{take-all}
 use Rattle.common.specs.Floats.{dotOf}
-use Rattle.common.specs.Lists.{tabulate, stretch}
+use Rattle.common.specs.Lists.{stretch}
 use Rattle.common.specs.Refusals.{Shape}
 use Rattle.common.specs.Matrices.{cell, columnMajor}
-use Rattle.common.proofs.Fill.{fill-on, fill-all}
+use Rattle.common.proofs.Fill.{fill-on, fill-all, listed}
 use Rattle.common.proofs.Matrices.{column-fits, cell-at}
+use Rattle.common.proofs.Limits.{power-rows}
 use Rattle.transfer.specs.Tensor.{passed, ends}
 
 -- the start of the next column of p entries
@@ -90,23 +91,16 @@ module _ (pass : ℕ → ℕ → List Float → List Float) (D w v : ℕ) (wide 
   unfolding ends
   axes-three f s t e hs hf ht = rw (ht, hf, hs, wide, e)
 
--- as p rows and p ^ (D - 1) columns, and the other way
-as-rows : (p D : ℕ) → 1 ≤ D → p ^ D ≡ p ^ (D - 1) * p
-as-rows p D l = let e : D ≡ suc (D - 1) = omega arith in ap (λ (k : ℕ). p ^ k) e ∙ pow-suc p (D - 1)
-
+-- as p columns and p ^ (D - 1) rows
 as-columns : (p D : ℕ) → 1 ≤ D → p ^ D ≡ p * p ^ (D - 1)
-as-columns p D l = as-rows p D l ∙ mul-comm (p ^ (D - 1)) p
+as-columns p D l = power-rows p D l ∙ mul-comm (p ^ (D - 1)) p
 
 -- what a pass along an axis asks for, where both buffers have p ^ D entries
 pub pass-ready : (D p w axis o v t : ℕ) → Shape D p → o ≡ (p + p) * p → w ≡ p ^ (D - 1) → axis ≤ 2 → v ≡ p ^ D → t ≡ p ^ D →
     (p ≤ 16) × (axis ≤ 2) × (o ≡ (p + p) * p) × (v ≡ w * p) × (t ≡ p * w)
 pass-ready D p w axis o v t s ho hw ha hv ht =
-    (s .order-most, ha, ho, rw hw (hv ∙ as-rows p D (s .dimension-least)), rw hw (ht ∙ as-columns p D (s .dimension-least)))
+    (s .order-most, ha, ho, rw hw (hv ∙ power-rows p D (s .dimension-least)), rw hw (ht ∙ as-columns p D (s .dimension-least)))
 
--- a list is what its entries are, and so is a copy of it over another of its length
-entries : (l : List Float) → tabulate (length l) (λ i. getD l i nan) ≡ l
-entries [] = refl
-entries (x ∷ l) = ap (λ (t : List Float). x ∷ t) (entries l)
-
+-- a list copied over another of its length
 pub copied : (l over : List Float) → length over ≡ length l → stretch 0 (length l) (λ i. getD l i nan) over ≡ l
-copied l over h = fill-all (length l) (λ i. getD l i nan) over h ∙ entries l
+copied l over h = fill-all (length l) (λ i. getD l i nan) over h ∙ listed l (length l) nan refl

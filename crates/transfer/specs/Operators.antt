@@ -5,10 +5,11 @@ use Prim.Native.Nat.{ℕ, _+_, _-_, _*_}
 use lib.Dec.{ltb, eqb}
 use lib.Ieee.{Float, nan}
 use lib.ListN.{length, getD}
-use Rattle.common.specs.Floats.{plus, minus, times, over, one₆₄, two₆₄, half₆₄, float, sums}
+use Rattle.common.specs.Floats.{plus, minus, times, over, one₆₄, two₆₄, half₆₄, float, inner}
 use Rattle.common.specs.Matrices.{columnMajor}
 use Rattle.common.specs.Refusals.{noOrder, wrongLength, unless, isOrder, left}
-use Rattle.chebyshev.specs.Polynomials.{T, nodeT}
+use Rattle.common.specs.Matrices.{matrix}
+use Rattle.chebyshev.specs.Polynomials.{T}
 
 -- child nodes are (x-1)*0.5, then (x+1)*0.5
 unfoldable pub childNode : (p : ℕ) → (nodes : List Float) → (c : ℕ) → Float
@@ -18,7 +19,7 @@ childNode p nodes c =
 -- (sum of T_k(node)*T_k(child)) * (2/p), less 1/p
 unfoldable pub operator : (p : ℕ) → (nodes polynomials : List Float) → (i c : ℕ) → Float
 operator p nodes polynomials i c =
-    minus (times (sums p (λ k. times (nodeT p polynomials i k) (T k (childNode p nodes c)))) (over two₆₄ (float p))) (over one₆₄ (float p))
+    minus (times (inner p (matrix p polynomials i) (λ k. T k (childNode p nodes c))) (over two₆₄ (float p))) (over one₆₄ (float p))
 
 -- THE CALL
 

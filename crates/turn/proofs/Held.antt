@@ -13,7 +13,8 @@ use borrow.Author.Tests.{le-leb, lt-leb, leb-true, ltb-true, eqb-true, lt-ltb}
 use Rattle.common.specs.Tests.{each}
 use Rattle.common.specs.Digits.{number}
 use Rattle.common.specs.Refusals.{isDimension}
-use Rattle.common.proofs.Cases.{by-bool, by-lt, fun-ext, inside-low, inside-high}
+use Rattle.common.proofs.Limits.{passed}
+use Rattle.common.proofs.Cases.{by-lt, fun-ext, inside-low, inside-high}
 use Rattle.common.proofs.Tests.{each-at}
 use Rattle.common.proofs.Digits.{number-cong, number-below}
 use Rattle.turn.proofs.Sizes.{at-three}
@@ -22,9 +23,9 @@ use Rattle.turn.specs.declared.Three.{Three}
 use Rattle.turn.specs.declared.Entry.{Entry}
 use Rattle.turn.specs.declared.LookUp.the-variants.{Refused, Found}
 use Rattle.turn.specs.Order.{factorial, order}
-use Rattle.turn.specs.Vectors.{sizes, sign, index, case, atMost, near, reference}
+use Rattle.turn.specs.Vectors.{sizes, sign, index, case, atMost, near, referenceOf}
 use Rattle.turn.specs.LookUps.{entries, lookUpNumber, entryOf, lookUp}
-use Rattle.turn.specs.Working.{shifted, unshifted, sizeOf, signOf, three, vectorOf, eachOf, digitsNumber, digitNumber, lower, referenceOf, Small, Past}
+use Rattle.turn.specs.Working.{shifted, unshifted, sizeOf, signOf, three, vectorOf, eachOf, digitsNumber, digitNumber, lower, Small, Past}
 
 -- ENTRIES AND THEIR BITS
 
@@ -202,7 +203,7 @@ module _ (D : ℕ) (d : Three) (ok : Small D 7 d) where
       c ≡ number 2 D (three (eachOf signOf d)) * factorial D + order D (three (eachOf sizeOf d)) →
       r ≡ referenceOf D (three (eachOf sizeOf d)) → n ≡ atMost 1 D (three (eachOf sizeOf d)) →
       record { index = i; case = c; reference = r; near = n } ≡ entryOf D (vectorOf d)
-  unfolding entryOf case reference near referenceOf
+  unfolding entryOf case near referenceOf
   entry-held i c r n hi hc hr hn = rw (hi, hc, hr, hn, index-held, signs-held, sizes-held)
 
 -- THE NUMBER
@@ -287,14 +288,10 @@ module _ (D : ℕ) (d : Three) (l : 1 ≤ D) (m : D ≤ 3) (low : each D (λ a. 
 
 pub taken : (D : ℕ) (d : Three) → digitsNumber D (three d) ≡ 0 → Small D 7 d × Past D 3 d
 unfolding digitsNumber
-taken D d =
-    by-bool (isDimension D)
-    (λ e. rw e (by-bool (each D (λ a. ltb (three d a) 7))
-    (λ e'. rw e' (by-bool (each (3 - D) (λ a. eqb (three d (D + a)) 3))
-    (λ e'' _. digits-taken D d (inside-low 1 3 D e) (inside-high 1 3 D e) e' e'')
-    (λ e''. rw e'' λ z. absurd (omega arith))))
-    (λ e'. rw e' λ z. absurd (omega arith))))
-    (λ e. rw e λ z. absurd (omega arith))
+taken D d z =
+    let i = passed (isDimension D) 0 _ z in
+    let b = passed (each D (λ a. ltb (three d a) 7)) 3 _ (i .1) in
+    digits-taken D d (inside-low 1 3 D (i .0)) (inside-high 1 3 D (i .0)) (b .0) (passed (each (3 - D) (λ a. eqb (three d (D + a)) 3)) 5 0 (b .1) .0)
 
 -- the digits' vector is the one that was held
 pub vector-held : (D : ℕ) (v : Vector) → Small D 7 (digitsOf v) → vectorOf (digitsOf v) ≡ entries v

@@ -1,6 +1,6 @@
 -- Demand 3: the turn is right, for every dimension, order and vector; and so are the lists that the two calls leave. Assumes nothing.
 use mathlib.Core.Path.{_≡_, refl, sym, ap, _∙_}
-use mathlib.Core.Bool.{Bool, true}
+use mathlib.Core.Bool.{Bool}
 use mathlib.Core.List.{List}
 use Prim.Native.Nat.{ℕ, zero, suc, _^_, _<_, _≤_}
 use native.Mathlib.Omega.{arith}
@@ -17,7 +17,7 @@ use Rattle.common.proofs.Digits.{digit-number, digit-below, number-below}
 use Rattle.common.proofs.Fill.{getD-tabulate}
 use Rattle.common.proofs.Limits.{left-done}
 use Rattle.turn.specs.Order.{axis, order, sorted}
-use Rattle.turn.specs.Vectors.{sizes, sign, case, near, references, entry, reference}
+use Rattle.turn.specs.Vectors.{sizes, sign, case, near, entry, reference}
 use Rattle.turn.specs.Turned.{reversed, negative, axisOf, turned, returned}
 use Rattle.turn.specs.Tables.{cases, tableNumber, tableCall}
 use Rattle.turn.specs.declared.Vector.{Vector}
@@ -25,9 +25,9 @@ use Rattle.turn.specs.declared.Entry.{Entry}
 use Rattle.turn.specs.declared.LookUp.the-variants as look
 use Rattle.turn.specs.declared.Reference.the-variants as refer
 use Rattle.turn.specs.LookUps.{entries, lookUp, lookUpNumber, lookedUp, entryOf, referenceCall, referenceNumber, referenceAt, referred}
-use Rattle.turn.specs.Turns.{Far, Mirrored, distance, Turns, Matches, TurnIsRight}
+use Rattle.turn.specs.Turns.{Far, Mirrored, distance, Turns, TurnIsRight}
 use Rattle.turn.proofs.Orders.{order-below}
-use Rattle.turn.proofs.References.{reference-below, reference-entry, reference-matches, reference-only, near-none}
+use Rattle.turn.proofs.References.{reference-below, reference-entry, reference-matches, reference-only}
 use Rattle.turn.proofs.Nodes.{turned-index, turned-below, returned-below, returned-turned, turned-returned, axisOf-below}
 
 -- WHAT A VECTOR'S CASE SAYS
@@ -181,7 +181,3 @@ calls-are-right D p v r e table inverse table' inverse' ok far lt lu he hr ht hu
     (λ n b. ap (λ (x : ℕ × List ℕ). getD (x .1) n 0) (sym (rw k at ht)) ∙ filled D p (case D w) _ table ok (case-below D w) lt n b)
     (λ n b. ap (λ (x : ℕ × List ℕ). getD (x .1) n 0) (sym (rw k at hu)) ∙ filled D p (case D w) _ inverse ok (case-below D w) lu n b)
     (λ n _. returned-below D p (case D w) (ok .order-least) n) (turns D p w (ok .order-least))
-
--- NEAR VECTORS: `turns` holds of them, and no reference has their sorted sizes
-pub near-has-none : (D : ℕ) (v : ℕ → ℤ) → 0 < D → near D v ≡ true → (i : ℕ) → i < length (references D) → Matches D v i → ⊥
-near-has-none = near-none

@@ -47,6 +47,9 @@ entry D i a = digit 4 D a (getD (references D) i 0)
 unfoldable pub farReference : (D : ℕ) → (sizes : ℕ → ℕ) → ℕ
 farReference D s = count (number 4 D (sorted D s)) (isReference D)
 
--- near vectors keep reference 0
-unfoldable pub reference : (D : ℕ) → (ℕ → ℤ) → ℕ
-reference D v = cond (near D v) 0 (farReference D (sizes v))
+-- that of a vector, by its sizes; near vectors, whose sizes are at most 1, keep reference 0
+unfoldable pub referenceOf : (D : ℕ) → (sizes : ℕ → ℕ) → ℕ
+referenceOf D s = cond (atMost 1 D s) 0 (farReference D s)
+
+abbrev pub reference : (D : ℕ) → (ℕ → ℤ) → ℕ
+reference D v = referenceOf D (sizes v)

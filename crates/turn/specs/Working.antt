@@ -10,7 +10,6 @@ use Rattle.common.specs.Refusals.{noDimension, noEntry, notZero, unless, isDime
 use Rattle.common.specs.Lists.{stores}
 use Rattle.turn.specs.declared.Three.{Three}
 use Rattle.turn.specs.declared.Steps.{Steps}
-use Rattle.turn.specs.Vectors.{atMost, farReference}
 use Rattle.turn.specs.Turned.{negative, axisOf, turned, returned}
 
 -- LOOKING UP: an entry is held as a digit, three more than it is
@@ -62,10 +61,6 @@ lower a b = cond (eqb a 0) b (cond (eqb b 0) a (min a b))
 -- 1 where the second of two sizes comes first, as the larger
 abbrev pub swap : ℕ → ℕ → ℕ
 swap a b = min 1 (b - a)
-
--- the reference of a vector with these sizes
-unfoldable pub referenceOf : (D : ℕ) → (ℕ → ℕ) → ℕ
-referenceOf D s = cond (atMost 1 D s) 0 (farReference D s)
 
 -- a dimension, and three numbers below a bound; those past the dimension are a given one
 pub record Small (D most : ℕ) (t : Three) : Type 0 where

@@ -3,8 +3,9 @@ ghost use mathlib.Core.Path.{_≡_};
 ghost use Prim.Native.Nat.{_+_, _*_, _<_, _≤_, min, max};
 ghost use Rattle.common.specs.Digits.{number};
 ghost use Rattle.turn.specs.Order.{factorial, order};
+ghost use Rattle.turn.specs.Vectors.{referenceOf};
 ghost use Rattle.turn.specs.LookUps.{lookUp, entryOf, referenceCall};
-ghost use Rattle.turn.specs.Working.{shifted as shiftedTo, sizeOf, signOf, three, vectorOf, eachOf, swap, referenceOf, digitsNumber, digitNumber, lower, Small, Past};
+ghost use Rattle.turn.specs.Working.{shifted as shiftedTo, sizeOf, signOf, three, vectorOf, eachOf, swap, digitsNumber, digitNumber, lower, Small, Past};
 use crate::Entry;
 use crate::LookUp;
 use crate::Reference;
@@ -142,12 +143,6 @@ fn most(a: usize, b: usize) -> usize
     if a < b { b } else { a }
 }
 
-fn least(a: usize, b: usize) -> usize
-    ensures { λ r. ⌜ r ≡ min a b ⌝ }
-{
-    if a < b { a } else { b }
-}
-
 fn largest_of(s: Three) -> usize
     ensures { λ r. ⌜ r ≡ max (max (s .0) (s .1)) (s .2) ⌝ }
 {
@@ -157,7 +152,7 @@ fn largest_of(s: Three) -> usize
 fn smallest_of(s: Three) -> usize
     ensures { λ r. ⌜ r ≡ min (min (s .0) (s .1)) (s .2) ⌝ }
 {
-    least(least(s.0, s.1), s.2)
+    common::least(common::least(s.0, s.1), s.2)
 }
 
 // The number of the reference with these sizes: how many references come before it. Those that begin with 2 number

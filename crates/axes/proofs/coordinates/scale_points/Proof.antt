@@ -7,13 +7,13 @@ use lib.ListN.{length as size}
 use Rattle.common.specs.Matrices.{cell}
 use Rattle.common.proofs.Steps.{Stepping, stepping-none, stepping-fits, stepping-done}
 use Rattle.common.proofs.Matrices.{columns-filled}
-use Rattle.axes.specs.Axes.{scaled}
-use Rattle.axes.proofs.Stretches.{scaledAt, axis-scaled}
+use Rattle.axes.specs.Axes.{coordinate}
+use Rattle.axes.proofs.Stretches.{axis-scaled}
 use Rattle.axes.proofs.coordinates.scale_points.Statement.{statement}
 use Rattle.axes.proofs.coordinates.scale_points.Tie as tie
 
 abbrev Inv-loop : tie.InvT-loop
-Inv-loop dimension rows length centre points₀ axis₀ at₀ points axis at = Stepping 0 dimension rows (cell rows (scaledAt dimension rows length centre points₀)) points₀ points axis at
+Inv-loop dimension rows length centre points₀ axis₀ at₀ points axis at = Stepping 0 dimension rows (cell rows (coordinate rows length centre points₀)) points₀ points axis at
 
 abbrev μ-loop : tie.MeasureT-loop
 μ-loop dimension rows length centre points₀ axis₀ at₀ points axis at = dimension - axis
@@ -23,11 +23,11 @@ room : (c : tie.In-loop Inv-loop μ-loop) → c .before .loop .at + c .before .b
 room c =
     let s = c .before .before .before .before in
     let a = s .args in
-    let fits = stepping-fits 0 (a .dimension) (a .rows) (cell (a .rows) (scaledAt (a .dimension) (a .rows) (a .length) (a .centre .now) (a .points .now))) _ _ _ _ (c .before .loop .inv) (c .loop-test .taken) in
+    let fits = stepping-fits 0 (a .dimension) (a .rows) (cell (a .rows) (coordinate (a .rows) (a .length) (a .centre .now) (a .points .now))) _ _ _ _ (c .before .loop .inv) (c .loop-test .taken) in
     omega (arith, fits, c .before .loop .inv .long, s .pre .2)
 
 loop-holds : tie.Need-loop-holds Inv-loop μ-loop
-loop-holds c = let a = c .before .before .args in stepping-none 0 (a .dimension) (a .rows) (cell (a .rows) (scaledAt (a .dimension) (a .rows) (a .length) (a .centre .now) (a .points .now))) _
+loop-holds c = let a = c .before .before .args in stepping-none 0 (a .dimension) (a .rows) (cell (a .rows) (coordinate (a .rows) (a .length) (a .centre .now) (a .points .now))) _
 
 mul-scale-axis : tie.Need-mul-scale-axis Inv-loop μ-loop
 mul-scale-axis c = omega (arith, c .before .before .before .before .pre .0, c .loop-test .taken)
@@ -62,8 +62,8 @@ returns : tie.Need-returns Inv-loop μ-loop
 returns c =
     let s = c .before .before .before .before in
     let a = s .args in
-    stepping-done 0 (a .dimension) (a .rows) (cell (a .rows) (scaledAt (a .dimension) (a .rows) (a .length) (a .centre .now) (a .points .now))) _ _ _ _ (c .before .loop .inv) (c .loop-test .left)
-    ∙ columns-filled (a .rows) (scaledAt (a .dimension) (a .rows) (a .length) (a .centre .now) (a .points .now)) (a .dimension) _ (s .pre .2)
+    stepping-done 0 (a .dimension) (a .rows) (cell (a .rows) (coordinate (a .rows) (a .length) (a .centre .now) (a .points .now))) _ _ _ _ (c .before .loop .inv) (c .loop-test .left)
+    ∙ columns-filled (a .rows) (coordinate (a .rows) (a .length) (a .centre .now) (a .points .now)) (a .dimension) _ (s .pre .2)
 
 pub scale-points-spec : {M : Type 1} → statement M
 scale-points-spec =

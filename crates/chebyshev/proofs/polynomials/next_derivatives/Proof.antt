@@ -6,7 +6,7 @@ use native.Mathlib.Omega.{arith}
 use lib.Ieee.{nan}
 use lib.ListN.{getD}
 use Rattle.common.proofs.Fill.{Filling, filling-none, filling-more, filling-done, filling-before}
-use Rattle.chebyshev.specs.Working.{nextT, nextT′}
+use Rattle.chebyshev.specs.Polynomials.{nextT′}
 use Rattle.chebyshev.proofs.polynomials.next_derivatives.Statement.{statement}
 use Rattle.chebyshev.proofs.polynomials.next_derivatives.Tie as tie
 

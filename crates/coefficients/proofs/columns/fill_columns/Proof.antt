@@ -48,7 +48,7 @@ copy-column-requires : tie.Need-copy-column-requires Inv-loop μ-loop
 copy-column-requires c κs =
     let s = c .before .before .before .before .before in
     let a = s .args in
-    (s .pre .3, omega (arith, s .pre .5, nodes-side (a .dimension) (a .order) (a .rows) (s .pre .0 .order-least) (s .pre .0 .dimension-least)))
+    (omega (arith, s .pre .3), omega (arith, s .pre .5, nodes-side (a .dimension) (a .order) (a .rows) (s .pre .0 .order-least) (s .pre .0 .dimension-least)))
 
 same-length : tie.Need-same-length Inv-loop μ-loop
 same-length c = search needs

@@ -1,5 +1,5 @@
 -- `transfer::tensor::apply_cheb_tensor_transfer` meets its contract: refused, or the passes from a copy of the input. Assumes nothing.
-use mathlib.Core.Path.{refl, sym, _∙_}
+use mathlib.Core.Path.{sym, _∙_}
 use native.Mathlib.Omega.{arith}
 use borrow.Author.Needs.{needs}
 use lib.ListN.{length}
@@ -21,7 +21,7 @@ copy-column-requires c κs =
     let a = c .before .before .before .before .before .before .before .args in
     let h = transfer-accepted (a .dimension) (a .order) (a .child) (length (a .input .now)) (length (a .operators .now))
     (length (a .first .now)) (length (a .second .now)) (sym (c .before .before .transfer-number .ensures) ∙ c .before .if1 .left) in
-    (refl, omega (arith, h .input, h .first))
+    (search needs, omega (arith, h .input, h .first))
 
 transfer-axes-requires : tie.Need-transfer-axes-requires
 transfer-axes-requires c κs =

@@ -1,0 +1,94 @@
+-- The public contracts determine the number and all lent memory: two outcomes that one allows for an input coincide. Assumes nothing.
+use mathlib.Core.Path.{_≡_}
+use mathlib.Core.Bool.{Bool}
+use mathlib.Core.List.{List}
+use Prim.Native.Nat.{ℕ}
+use lib.Ieee.{Float}
+use lib.IntN.{ℤ}
+use Rattle.common.proofs.Determined.{coincide}
+use Rattle.turn.specs.declared.Vector.{Vector}
+use Rattle.turn.specs.Turned.{turned, returned}
+use Rattle.turn.specs.Tables.{tableCall}
+use Rattle.chebyshev.specs.Nodes.{nodesCall}
+use Rattle.chebyshev.specs.Polynomials.{polynomialsCall}
+use Rattle.transfer.specs.Operators.{operatorsCall}
+use Rattle.transfer.specs.Tensor.{transferCall}
+use Rattle.points.specs.Points.{targetCall, sourceCall}
+use Rattle.coefficients.specs.Coefficients as coefficients
+use Rattle.aca.specs.Runs.{Memory}
+use Rattle.bbfmm.specs.Told.{lookUpTold, referenceTold, argmaxTold, cutoffTold, Crossed, crossTold}
+
+-- TURNING A BLOCK
+
+module _ (dimension : ℕ) (vector : Vector) (answer : List ℕ) (r r' : ℕ × List ℕ) where
+  bbfmm-look-up-determined : r ≡ lookUpTold dimension vector answer → r' ≡ lookUpTold dimension vector answer → r ≡ r'
+  bbfmm-look-up-determined = coincide r r' (lookUpTold dimension vector answer)
+
+module _ (dimension number : ℕ) (vector : List ℤ) (r r' : ℕ × List ℤ) where
+  bbfmm-reference-vector-determined : r ≡ referenceTold dimension number vector → r' ≡ referenceTold dimension number vector → r ≡ r'
+  bbfmm-reference-vector-determined = coincide r r' (referenceTold dimension number vector)
+
+module _ (dimension order case : ℕ) (table : List ℕ) (r r' : ℕ × List ℕ) where
+  bbfmm-combined-permutation-determined : r ≡ tableCall dimension order case (turned dimension order case) table →
+      r' ≡ tableCall dimension order case (turned dimension order case) table → r ≡ r'
+  bbfmm-combined-permutation-determined = coincide r r' (tableCall dimension order case (turned dimension order case) table)
+
+  bbfmm-inverse-permutation-determined : r ≡ tableCall dimension order case (returned dimension order case) table →
+      r' ≡ tableCall dimension order case (returned dimension order case) table → r ≡ r'
+  bbfmm-inverse-permutation-determined = coincide r r' (tableCall dimension order case (returned dimension order case) table)
+
+-- POLYNOMIALS
+
+module _ (order : ℕ) (nodes : List Float) (r r' : ℕ × List Float) where
+  bbfmm-generate-chebyshev-nodes-determined : r ≡ nodesCall order nodes → r' ≡ nodesCall order nodes → r ≡ r'
+  bbfmm-generate-chebyshev-nodes-determined = coincide r r' (nodesCall order nodes)
+
+module _ (order rows : ℕ) (with : Bool) (points tn dtn : List Float) (r r' : ℕ × List Float × List Float) where
+  bbfmm-evaluate-chebyshev-polynomials-determined : r ≡ polynomialsCall order rows with points tn dtn →
+      r' ≡ polynomialsCall order rows with points tn dtn → r ≡ r'
+  bbfmm-evaluate-chebyshev-polynomials-determined = coincide r r' (polynomialsCall order rows with points tn dtn)
+
+-- TRANSFER
+
+module _ (order : ℕ) (nodes polynomials operators : List Float) (r r' : ℕ × List Float) where
+  bbfmm-get-m2m-transfer-operators-determined : r ≡ operatorsCall order nodes polynomials operators →
+      r' ≡ operatorsCall order nodes polynomials operators → r ≡ r'
+  bbfmm-get-m2m-transfer-operators-determined = coincide r r' (operatorsCall order nodes polynomials operators)
+
+module _ (dimension order child : ℕ) (transpose : Bool) (input operators first second : List Float) (r r' : ℕ × List Float × List Float) where
+  bbfmm-apply-cheb-tensor-transfer-determined : r ≡ transferCall dimension order child transpose input operators first second →
+      r' ≡ transferCall dimension order child transpose input operators first second → r ≡ r'
+  bbfmm-apply-cheb-tensor-transfer-determined = coincide r r' (transferCall dimension order child transpose input operators first second)
+
+-- POINTS
+
+module _ (dimension order : ℕ) (length : Float) (reference : ℕ) (nodes points : List Float) (r r' : ℕ × List Float) where
+  bbfmm-generate-chebyshev-target-points-determined : r ≡ targetCall dimension order length nodes points →
+      r' ≡ targetCall dimension order length nodes points → r ≡ r'
+  bbfmm-generate-chebyshev-target-points-determined = coincide r r' (targetCall dimension order length nodes points)
+
+  bbfmm-generate-chebyshev-source-points-determined : r ≡ sourceCall dimension order length reference nodes points →
+      r' ≡ sourceCall dimension order length reference nodes points → r ≡ r'
+  bbfmm-generate-chebyshev-source-points-determined = coincide r r' (sourceCall dimension order length reference nodes points)
+
+-- COEFFICIENTS
+
+module _ (dimension order rows : ℕ) (length : Float) (with : Bool) (centre polynomials : List Float) (lent : coefficients.Memory) (r r' : ℕ × coefficients.Memory) where
+  bbfmm-get-approximation-coefficients-determined : r ≡ coefficients.coefficientsCall dimension order rows length with centre polynomials lent →
+      r' ≡ coefficients.coefficientsCall dimension order rows length with centre polynomials lent → r ≡ r'
+  bbfmm-get-approximation-coefficients-determined = coincide r r' (coefficients.coefficientsCall dimension order rows length with centre polynomials lent)
+
+-- CHOICES AND CROSS APPROXIMATION
+
+module _ (entries : List Float) (mask place : List ℕ) (r r' : ℕ × List ℕ) where
+  bbfmm-argmax-masked-determined : r ≡ argmaxTold entries mask place → r' ≡ argmaxTold entries mask place → r ≡ r'
+  bbfmm-argmax-masked-determined = coincide r r' (argmaxTold entries mask place)
+
+module _ (values : List Float) (epsilon : Float) (place : List ℕ) (r r' : ℕ × List ℕ) where
+  bbfmm-calculate-singular-values-cutoff-determined : r ≡ cutoffTold values epsilon place → r' ≡ cutoffTold values epsilon place → r ≡ r'
+  bbfmm-calculate-singular-values-cutoff-determined = coincide r r' (cutoffTold values epsilon place)
+
+module _ (rows columns : ℕ) (samples : List Float) (epsilon : Float) (lent : Memory) (counts : List ℕ) (estimate : List Float) (r r' : Crossed) where
+  bbfmm-aca-partial-pivoting-determined : r ≡ crossTold rows columns samples epsilon lent counts estimate →
+      r' ≡ crossTold rows columns samples epsilon lent counts estimate → r ≡ r'
+  bbfmm-aca-partial-pivoting-determined = coincide r r' (crossTold rows columns samples epsilon lent counts estimate)

@@ -1,0 +1,31 @@
+-- `bbfmm::choices_calls::bbfmm_argmax_masked` meets its contract: what is told is the place that the call answers. Assumes nothing.
+use borrow.Author.Needs.{needs}
+use mathlib.Core.Path.{ap, _∙_}
+use mathlib.Core.List.{List}
+use Prim.Native.Nat.{ℕ}
+use Rattle.aca.specs.declared.Place.{Place}
+use Rattle.aca.specs.Argmax.{argmaxCall}
+use Rattle.bbfmm.specs.Told.{argmaxTold}
+use Rattle.bbfmm.specs.Working.{placeTold}
+use Rattle.bbfmm.proofs.Numbers.{place-told}
+use Rattle.bbfmm.proofs.choices_calls.bbfmm_argmax_masked.Statement.{statement}
+use Rattle.bbfmm.proofs.choices_calls.bbfmm_argmax_masked.Tie as tie
+
+argmax-masked-requires : tie.Need-argmax-masked-requires
+argmax-masked-requires c κs = search needs
+
+tell-place-requires : tie.Need-tell-place-requires
+tell-place-requires c κs = search needs
+
+same-length : tie.Need-same-length
+same-length c = search needs
+
+returns : tie.Need-returns
+unfolding argmaxTold argmaxCall
+returns c =
+    let lent = c .before .before .before .before .before .before .before .before .args .place .now in
+    c .before .before .tell-place .ensures ∙ ap (λ (p : Place). placeTold p lent) (c .before .before .before .before .argmax-masked .ensures) ∙ place-told _ _ lent
+
+pub bbfmm-argmax-masked-spec : {M : Type 1} → statement M
+bbfmm-argmax-masked-spec =
+    tie.close (tie.spec argmax-masked-requires tell-place-requires same-length returns)

@@ -1,0 +1,61 @@
+-- What each call answers and leaves whose answer is more than a number.
+use Prim.Native.Nat.{ℕ}
+use mathlib.Core.Bool.{cond, _&&_}
+use mathlib.Core.List.{List, [], _∷_}
+use lib.Dec.{eqb}
+use lib.Ieee.{Float}
+use lib.IntN.{ℤ}
+use lib.ListN.{length}
+use Rattle.common.specs.Refusals.{left}
+use Rattle.turn.specs.declared.Vector.{Vector}
+use Rattle.turn.specs.declared.Entry.{Entry}
+use Rattle.turn.specs.Vectors.{sizes}
+use Rattle.turn.specs.LookUps.{entries, lookUpNumber, entryOf, referenceNumber, referenceAt}
+use Rattle.aca.specs.Argmax.{argmax, counts, argmaxNumber}
+use Rattle.aca.specs.Cutoff.{cutoff, cutoffNumber}
+use Rattle.aca.specs.Runs.{Memory, laid, report, acaNumber, approximation}
+use Rattle.aca.specs.declared.Report.{Report}
+use Rattle.bbfmm.specs.Answers.{withLength, told}
+
+-- index, case and reference number, and 1 for near, else 0
+abbrev pub entryValues : Entry → List ℕ
+entryValues e = e .index ∷ e .case ∷ e .reference ∷ cond (e .near) 1 0 ∷ []
+
+unfoldable pub lookUpTold : (D : ℕ) → Vector → (answer : List ℕ) → ℕ × List ℕ
+lookUpTold D v = told (lookUpNumber D (sizes (entries v))) (entryValues (entryOf D (entries v)))
+
+abbrev pub vectorValues : Vector → List ℤ
+vectorValues v = v .0 ∷ v .1 ∷ v .2 ∷ []
+
+unfoldable pub referenceTold : (D i : ℕ) → (vector : List ℤ) → ℕ × List ℤ
+referenceTold D i = told (referenceNumber D i) (vectorValues (referenceAt D i))
+
+unfoldable pub argmaxTold : (entries : List Float) → (mask place : List ℕ) → ℕ × List ℕ
+argmaxTold l mask = told (argmaxNumber l mask) (argmax l (counts mask) ∷ [])
+
+unfoldable pub cutoffTold : (values : List Float) → (epsilon : Float) → (place : List ℕ) → ℕ × List ℕ
+cutoffTold l epsilon = told (cutoffNumber l) (cutoff l epsilon ∷ [])
+
+-- CROSS APPROXIMATION: its report in two slices, of three numbers and of one float
+
+abbrev pub countsOf : Report → List ℕ
+countsOf r = r .rank ∷ r .stop ∷ r .«rows_read» ∷ []
+
+unfoldable pub crossNumber : (m n : ℕ) → (samples : List Float) → Memory → (counts : List ℕ) → (estimate : List Float) → ℕ
+crossNumber m n a t c e = withLength (acaNumber m n a t) (eqb (length c) 3 && eqb (length e) 1)
+
+-- the number, the memory of the run, and both slices
+pub record Crossed : Type 0 where
+  pub number : ℕ
+  pub leaves : Memory
+  pub counts : List ℕ
+  pub estimate : List Float
+
+abbrev pub crossed : (number : ℕ) → Memory → (counts : List ℕ) → (estimate : List Float) → Crossed
+crossed n t c e = record { number = n; leaves = t; counts = c; estimate = e }
+
+unfoldable pub crossTold : (m n : ℕ) → (samples : List Float) → (epsilon : Float) → Memory → (counts : List ℕ) → (estimate : List Float) → Crossed
+crossTold m n a epsilon t c e =
+    let f = approximation m n a epsilon t in
+    let number = crossNumber m n a t c e in
+    crossed number (left number (laid (f .found) t) t) (left number (countsOf (report f)) c) (left number (report f .estimate ∷ []) e)

@@ -1,0 +1,78 @@
+// Cross approximation, with its report in two lent slices.
+ghost use mathlib.Core.Path.{_≡_};
+ghost use lib.ListN.{length};
+ghost use Rattle.aca.specs.Runs.{memory};
+ghost use Rattle.bbfmm.specs.Told.{crossed, crossTold};
+ghost use Rattle.bbfmm.specs.Working.{unfitNumber, reportTold};
+use aca::Approximation;
+use aca::aca_partial_pivoting;
+
+// The number of a call whose report does not fit: more rows or columns than there may be are refused first.
+fn unfit_number(rows: usize, columns: usize) -> u8
+    ensures { λ r. ⌜ r ≡ unfitNumber rows columns ⌝ }
+{
+    if 1024 < rows {
+        return common::NO_COUNT;
+    }
+    if 1024 < columns {
+        return common::NO_COUNT;
+    }
+    common::WRONG_LENGTH
+}
+
+// A report in the lent slices, or a refusal.
+fn tell_report(made: Approximation, counts: &mut [usize], estimate: &mut [f64]) -> u8
+    requires { ⌜ (length (now counts) ≡ 3) × (length (now estimate) ≡ 1) ⌝ }
+    ensures { λ r. ⌜ (r, now (counts .exit), now (estimate .exit)) ≡ reportTold made (now (counts .entry)) (now (estimate .entry)) ⌝ }
+{
+    match made {
+        Approximation::Refused(number) => number,
+        Approximation::Done(report) => {
+            counts[0] = report.rank;
+            counts[1] = report.stop as usize;
+            counts[2] = report.rows_read;
+            estimate[0] = report.estimate;
+            0
+        }
+    }
+}
+
+// The block as U times the transpose of V, with the rows and columns that were read for it; rank, stop and rows read in `counts`.
+#[no_mangle]
+pub extern "C" fn bbfmm_aca_partial_pivoting(
+    rows: usize,
+    columns: usize,
+    samples: &[f64],
+    epsilon: f64,
+    u: &mut [f64],
+    v: &mut [f64],
+    row_list: &mut [u16],
+    column_list: &mut [u16],
+    row: &mut [f64],
+    column: &mut [f64],
+    counts: &mut [usize],
+    estimate: &mut [f64],
+) -> u8
+    ensures { λ r. ⌜ crossed r (memory (now (u .exit)) (now (v .exit)) (now («row_list» .exit)) (now («column_list» .exit)) (now (row .exit)) (now (column .exit))) (now (counts .exit)) (now (estimate .exit))
+        ≡ crossTold rows columns (now (samples .entry)) epsilon (memory (now (u .entry)) (now (v .entry)) (now («row_list» .entry)) (now («column_list» .entry)) (now (row .entry)) (now (column .entry))) (now (counts .entry)) (now (estimate .entry)) ⌝ }
+{
+    if counts.len() != 3 {
+        return unfit_number(rows, columns);
+    }
+    if estimate.len() != 1 {
+        return unfit_number(rows, columns);
+    }
+    let made = aca_partial_pivoting(
+        rows,
+        columns,
+        samples,
+        epsilon,
+        u,
+        v,
+        row_list,
+        column_list,
+        row,
+        column,
+    );
+    tell_report(made, counts, estimate)
+}

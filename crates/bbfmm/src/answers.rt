@@ -1,0 +1,19 @@
+// What the calls share whose answer is more than a number: the test of the slices that are lent for it.
+ghost use mathlib.Core.Path.{_≡_};
+ghost use Rattle.bbfmm.specs.Answers.{withLength};
+
+// The lower of a call's own number and the one that the length of a lent answer brings, 0 being none.
+pub(crate) fn with_length(own: u8, is_fit: bool) -> u8
+    ensures { λ r. ⌜ r ≡ withLength own «is_fit» ⌝ }
+{
+    if is_fit {
+        return own;
+    }
+    if own == 0 {
+        return common::WRONG_LENGTH;
+    }
+    if own < common::WRONG_LENGTH {
+        return own;
+    }
+    common::WRONG_LENGTH
+}

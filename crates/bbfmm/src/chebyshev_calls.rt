@@ -1,0 +1,29 @@
+// Chebyshev nodes, polynomials and their derivatives.
+ghost use mathlib.Core.Path.{_≡_};
+ghost use Rattle.chebyshev.specs.Nodes.{nodesCall};
+ghost use Rattle.chebyshev.specs.Polynomials.{polynomialsCall};
+use chebyshev::evaluate_chebyshev_polynomials;
+use chebyshev::generate_chebyshev_nodes;
+
+// The nodes of an order, rising.
+#[no_mangle]
+pub extern "C" fn bbfmm_generate_chebyshev_nodes(order: usize, nodes: &mut [f64]) -> u8
+    ensures { λ r. ⌜ (r, now (nodes .exit)) ≡ nodesCall order (now (nodes .entry)) ⌝ }
+{
+    generate_chebyshev_nodes(order, nodes)
+}
+
+// T and, if wanted, T' at each point: a row a point, a column a polynomial.
+#[no_mangle]
+pub extern "C" fn bbfmm_evaluate_chebyshev_polynomials(
+    order: usize,
+    rows: usize,
+    points: &[f64],
+    with_derivatives: bool,
+    tn: &mut [f64],
+    dtn: &mut [f64],
+) -> u8
+    ensures { λ r. ⌜ (r, now (tn .exit), now (dtn .exit)) ≡ polynomialsCall order rows «with_derivatives» (now (points .entry)) (now (tn .entry)) (now (dtn .entry)) ⌝ }
+{
+    evaluate_chebyshev_polynomials(order, rows, points, with_derivatives, tn, dtn)
+}

@@ -1,0 +1,45 @@
+// Masked argmax and rank cutoff.
+ghost use mathlib.Core.Path.{_≡_};
+ghost use Rattle.bbfmm.specs.Told.{argmaxTold, cutoffTold};
+ghost use Rattle.bbfmm.specs.Working.{placeTold};
+use crate::answers::with_length;
+use aca::Place;
+use aca::argmax_masked;
+use aca::calculate_singular_values_cutoff;
+
+// A place in the lent answer, or a refusal.
+fn tell_place(found: Place, place: &mut [usize]) -> u8
+    ensures { λ r. ⌜ (r, now (place .exit)) ≡ placeTold found (now (place .entry)) ⌝ }
+{
+    let is_fit = place.len() == 1;
+    match found {
+        Place::Refused(number) => with_length(number, is_fit),
+        Place::At(at) => {
+            if is_fit {
+                place[0] = at;
+                return 0;
+            }
+            common::WRONG_LENGTH
+        }
+    }
+}
+
+// The first place of the largest size among the entries whose mask byte is 1, or 0.
+#[no_mangle]
+pub extern "C" fn bbfmm_argmax_masked(entries: &[f64], mask: &[u8], place: &mut [usize]) -> u8
+    ensures { λ r. ⌜ (r, now (place .exit)) ≡ argmaxTold (now (entries .entry)) (now (mask .entry)) (now (place .entry)) ⌝ }
+{
+    tell_place(argmax_masked(entries, mask), place)
+}
+
+// The first place from which on the singular values matter less than the tolerance, or how many there are.
+#[no_mangle]
+pub extern "C" fn bbfmm_calculate_singular_values_cutoff(
+    values: &[f64],
+    epsilon: f64,
+    place: &mut [usize],
+) -> u8
+    ensures { λ r. ⌜ (r, now (place .exit)) ≡ cutoffTold (now (values .entry)) epsilon (now (place .entry)) ⌝ }
+{
+    tell_place(calculate_singular_values_cutoff(values, epsilon), place)
+}

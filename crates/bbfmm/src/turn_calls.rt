@@ -1,0 +1,92 @@
+// Turning a block: looking up a vector, reference vectors, and the two tables.
+ghost use mathlib.Core.Path.{_≡_};
+ghost use Rattle.turn.specs.Tables.{tableCall};
+ghost use Rattle.turn.specs.Turned.{turned, returned};
+ghost use Rattle.bbfmm.specs.Told.{lookUpTold, referenceTold};
+use crate::answers::with_length;
+use turn::LookUp;
+use turn::Reference;
+use turn::Vector;
+use turn::combined_permutation;
+use turn::inverse_permutation;
+use turn::look_up;
+use turn::reference_vector;
+
+// The vector (x, y, z): its index, its case, its reference number, and 1 where it is near, else 0.
+#[no_mangle]
+pub extern "C" fn bbfmm_look_up(
+    dimension: usize,
+    x: i32,
+    y: i32,
+    z: i32,
+    answer: &mut [usize],
+) -> u8
+    ensures { λ r. ⌜ (r, now (answer .exit)) ≡ lookUpTold dimension (x, y, z) (now (answer .entry)) ⌝ }
+{
+    let is_fit = answer.len() == 4;
+    let found = look_up(dimension, Vector(x, y, z));
+    match found {
+        LookUp::Refused(number) => with_length(number, is_fit),
+        LookUp::Found(entry) => {
+            if is_fit {
+                answer[0] = entry.index;
+                answer[1] = entry.case;
+                answer[2] = entry.reference;
+                answer[3] = entry.near as usize;
+                return 0;
+            }
+            common::WRONG_LENGTH
+        }
+    }
+}
+
+// The three entries of the reference vector with this number.
+#[no_mangle]
+pub extern "C" fn bbfmm_reference_vector(dimension: usize, number: usize, vector: &mut [i32]) -> u8
+    ensures { λ r. ⌜ (r, now (vector .exit)) ≡ referenceTold dimension number (now (vector .entry)) ⌝ }
+{
+    let is_fit = vector.len() == 3;
+    let found = reference_vector(dimension, number);
+    match found {
+        Reference::Refused(refused) => with_length(refused, is_fit),
+        Reference::Found(v) => {
+            if is_fit {
+                // Copies: only a whole local can be stored where a signed number lies.
+                let x = v.0;
+                let y = v.1;
+                let z = v.2;
+                vector[0] = x;
+                vector[1] = y;
+                vector[2] = z;
+                return 0;
+            }
+            common::WRONG_LENGTH
+        }
+    }
+}
+
+// The table of a case: which node of the turned block each node of the reference block becomes.
+#[no_mangle]
+pub extern "C" fn bbfmm_combined_permutation(
+    dimension: usize,
+    order: usize,
+    case: usize,
+    table: &mut [u16],
+) -> u8
+    ensures { λ r. ⌜ (r, now (table .exit)) ≡ tableCall dimension order case (turned dimension order case) (now (table .entry)) ⌝ }
+{
+    combined_permutation(dimension, order, case, table)
+}
+
+// The inverse of that table.
+#[no_mangle]
+pub extern "C" fn bbfmm_inverse_permutation(
+    dimension: usize,
+    order: usize,
+    case: usize,
+    table: &mut [u16],
+) -> u8
+    ensures { λ r. ⌜ (r, now (table .exit)) ≡ tableCall dimension order case (returned dimension order case) (now (table .entry)) ⌝ }
+{
+    inverse_permutation(dimension, order, case, table)
+}

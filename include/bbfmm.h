@@ -1,0 +1,223 @@
+/*
+ * The operators behind the goaf gas maps, for C and C++: Chebyshev nodes and polynomials, transfer between a block and its
+ * children, turning a block, points, coefficients, cross approximation.
+ *
+ * `rt staticlib bbfmm` proves the calls and writes target/staticlib/libbbfmm.a, for x86-64. The archive takes memcpy and memset
+ * from the C library and nothing else. It allocates nothing and keeps nothing between calls.
+ *
+ * NUMBERS. Every call answers BBFMM_DONE or the number of a refusal. After a refusal every lent buffer is as it came. With several
+ * faults the lowest number is given. Each call ends, whatever it is given.
+ *
+ * BUFFERS. A buffer is two arguments: a pointer to its first entry, and how many entries it has. A const buffer is only read. The
+ * lengths below are exact: any other is refused with BBFMM_WRONG_LENGTH. What no call can test, the caller sees to: a pointer is
+ * not null, even where the length is 0, is aligned for its type, and has so many entries behind it; no two buffers of a call
+ * overlap; a bool is true or false.
+ *
+ * MATRICES are column-major: with R rows, the entry of row i and column j stands at i + j * R.
+ *
+ * LETTERS. D is the dimension, 1 to 3; p is the order, 1 to 16, which is how many nodes a block has an axis; N is p to the power
+ * of D, all its nodes; P is the number of points. Nodes are numbered with the last axis varying fastest.
+ *
+ * FLOATS may be any, NaN and infinities included, where no refusal says otherwise. Each operation rounds once.
+ */
+#ifndef BBFMM_H
+#define BBFMM_H
+
+#include <stdbool.h>
+#include <stddef.h>
+#include <stdint.h>
+
+#ifdef __cplusplus
+extern "C" {
+#endif
+
+/* What a call answers. */
+enum {
+    BBFMM_DONE = 0,
+    BBFMM_NO_DIMENSION = 1, /* the dimension is not 1, 2 or 3 */
+    BBFMM_NO_ORDER = 2,     /* the order is not 1 to 16 */
+    BBFMM_NO_COUNT = 3,     /* too many points, entries, singular values, rows or columns, or no singular values */
+    BBFMM_NO_ENTRY = 4,     /* one of a vector's first D entries is outside -3 to 3 */
+    BBFMM_NO_CASE = 5,      /* a case, a reference number or a child is not below how many there are */
+    BBFMM_NOT_ZERO = 6,     /* an entry of a vector past the first D is not 0 */
+    BBFMM_WRONG_LENGTH = 7, /* a buffer has not its length */
+    BBFMM_NO_CELL = 8,      /* a cell's length is not from 2^-20 to 2^30 */
+    BBFMM_NOT_FINITE = 9,   /* a coordinate of a point or of the centre is not finite */
+    BBFMM_NO_MASK = 10      /* a byte of a mask is not 0 or 1 */
+};
+
+/* Why a cross approximation ended. */
+enum {
+    BBFMM_STOP_TOLERABLE = 1, /* the last term is small against the estimate: norm <= epsilon^2 * estimate */
+    BBFMM_STOP_SPENT = 2,     /* the row that was read has no pivot of 2^-52 or more */
+    BBFMM_STOP_USED_UP = 3    /* there are as many terms as the block has rows or columns */
+};
+
+/* TURNING A BLOCK */
+
+/*
+ * Looks up the vector (x, y, z) between two blocks.
+ * answer: 4 entries. The vector's index among all of its dimension, the first axis slowest; its case; the number of its reference
+ *     vector; 1 if it is near, else 0.
+ * Refuses with 1, 4, 6, 7.
+ */
+uint8_t bbfmm_look_up(size_t dimension, int32_t x, int32_t y, int32_t z, size_t *answer, size_t answer_length);
+
+/*
+ * The reference vector with this number, which is below 2, 7, 16 for dimension 1, 2, 3.
+ * vector: 3 entries. Those past the dimension become 0.
+ * Refuses with 1, 5, 7.
+ */
+uint8_t bbfmm_reference_vector(size_t dimension, size_t number, int32_t *vector, size_t vector_length);
+
+/*
+ * The table of a case, which is below 2, 8, 48 for dimension 1, 2, 3.
+ * table: N entries. Entry n becomes the node of the turned block that node n of the reference block goes to.
+ * Refuses with 1, 2, 5, 7.
+ */
+uint8_t bbfmm_combined_permutation(
+    size_t dimension, size_t order, size_t case_number, uint16_t *table, size_t table_length);
+
+/*
+ * The inverse of that table.
+ * table: N entries. Entry n becomes the node of the reference block that goes to node n of the turned block.
+ * Refuses with 1, 2, 5, 7.
+ */
+uint8_t bbfmm_inverse_permutation(
+    size_t dimension, size_t order, size_t case_number, uint16_t *table, size_t table_length);
+
+/* NODES AND POLYNOMIALS */
+
+/*
+ * The Chebyshev nodes of an order.
+ * nodes: p entries. They become the nodes, rising.
+ * Refuses with 2, 7.
+ */
+uint8_t bbfmm_generate_chebyshev_nodes(size_t order, double *nodes, size_t nodes_length);
+
+/*
+ * The Chebyshev polynomials at points, of which there are P = rows, at most 4,096; and, if wanted, their derivatives.
+ * points: P entries.
+ * tn: P by p. Column j becomes T_j at the points.
+ * dtn: P by p with derivatives, else 0 entries. Column j becomes the derivative of T_j at the points.
+ * Refuses with 2, 3, 7.
+ */
+uint8_t bbfmm_evaluate_chebyshev_polynomials(
+    size_t order, size_t rows, const double *points, size_t points_length, bool with_derivatives, double *tn, size_t tn_length,
+    double *dtn, size_t dtn_length);
+
+/* TRANSFER */
+
+/*
+ * The operators from a child's nodes to its parent's, on one axis.
+ * nodes: p entries.
+ * node_polynomials: p by p. Column k has T_k at the nodes.
+ * operators: p by 2p. The first p columns become the operator of the lower child, the others that of the upper.
+ * Refuses with 2, 7.
+ */
+uint8_t bbfmm_get_m2m_transfer_operators(
+    size_t order, const double *nodes, size_t nodes_length, const double *node_polynomials, size_t node_polynomials_length,
+    double *operators, size_t operators_length);
+
+/*
+ * Moves the values at the nodes of a child to its block, or, with transpose, from the block to the child. The child is below 2, 4,
+ * 8 for dimension 1, 2, 3; it is the upper one on axis a where bit a of it is 1.
+ * input: N entries.
+ * operators: p by 2p, as from bbfmm_get_m2m_transfer_operators.
+ * first, second: N entries each. The result comes into `first` for dimension 2, and into `second` otherwise. The other buffer
+ *     becomes what the last pass read.
+ * Refuses with 1, 2, 5, 7.
+ */
+uint8_t bbfmm_apply_cheb_tensor_transfer(
+    size_t dimension, size_t order, size_t child, bool transpose, const double *input, size_t input_length,
+    const double *operators, size_t operators_length, double *first, size_t first_length, double *second, size_t second_length);
+
+/* POINTS */
+
+/*
+ * Where the nodes of a block of this length lie, about the origin.
+ * nodes: p entries.
+ * points: N by D. Row n becomes the place of node n.
+ * Refuses with 1, 2, 7, 8.
+ */
+uint8_t bbfmm_generate_chebyshev_target_points(
+    size_t dimension, size_t order, double length, const double *nodes, size_t nodes_length, double *points,
+    size_t points_length);
+
+/*
+ * The same for the block at the reference vector with this number, which is below 2, 7, 16 for dimension 1, 2, 3.
+ * nodes: p entries.
+ * points: N by D. Row n becomes the place of node n.
+ * Refuses with 1, 2, 5, 7, 8.
+ */
+uint8_t bbfmm_generate_chebyshev_source_points(
+    size_t dimension, size_t order, double length, size_t reference, const double *nodes, size_t nodes_length, double *points,
+    size_t points_length);
+
+/* COEFFICIENTS */
+
+/*
+ * What each node of a cell of this length counts for at points in it, of which there are P = rows, at most 4,096; and, if wanted,
+ * how that changes along each axis.
+ * centre: D entries.
+ * node_polynomials: p by p. Column k has T_k at the nodes.
+ * points: P by D, a row a point. They become reference coordinates, from -1 to 1 in the cell.
+ * values: P by N. Column n becomes what node n counts for.
+ * gradients: P by D * N with gradients, else 0 entries. Column g * N + n becomes the slope of that along axis g.
+ * factors: P by D * p, room to work in. Column a * p + n becomes the share of index n on axis a.
+ * slopes: P by D * p with gradients, else 0 entries, room to work in. Column a * p + n becomes the slope of that share.
+ * Refuses with 1, 2, 3, 7, 8, 9.
+ */
+uint8_t bbfmm_get_approximation_coefficients(
+    size_t dimension, size_t order, double length, size_t rows, bool with_gradients, const double *centre, size_t centre_length,
+    const double *node_polynomials, size_t node_polynomials_length, double *points, size_t points_length, double *values,
+    size_t values_length, double *gradients, size_t gradients_length, double *factors, size_t factors_length, double *slopes,
+    size_t slopes_length);
+
+/* CHOICES */
+
+/*
+ * The first place of the largest size among the entries whose mask byte is 1, or 0 where none has a size above 0.
+ * entries: at most 1,024.
+ * mask: as many bytes, each 0 or 1.
+ * place: 1 entry.
+ * Refuses with 3, 7, 10.
+ */
+uint8_t bbfmm_argmax_masked(
+    const double *entries, size_t entries_length, const uint8_t *mask, size_t mask_length, size_t *place, size_t place_length);
+
+/*
+ * The first place from which on the squares of the singular values, summed from the end, come to less than all of them times
+ * epsilon squared; or how many there are.
+ * values: 1 to 1,024 entries.
+ * place: 1 entry.
+ * Refuses with 3, 7.
+ */
+uint8_t bbfmm_calculate_singular_values_cutoff(
+    const double *values, size_t values_length, double epsilon, size_t *place, size_t place_length);
+
+/* CROSS APPROXIMATION */
+
+/*
+ * A block of at most 1,024 rows and 1,024 columns as U times the transpose of V, up to the tolerance epsilon. With m rows, n
+ * columns, and k for the lesser of the two:
+ * samples: m by n, the block.
+ * u: m by k, and v: n by k. A column of each becomes a term; as many as the rank says, and the others stay as lent.
+ * row_list, column_list: k entries each. They become the rows that were read in order, and the columns; unused places stay as lent.
+ * row: n entries, and column: m entries, room to work in. They become the row and the column that were last worked on.
+ * counts: 3 entries. They become the rank, why the run ended, a BBFMM_STOP, and how many rows were read. As many columns were read
+ *     as the rank says.
+ * estimate: 1 entry. It becomes the estimate of the approximation's squared norm.
+ * Refuses with 3, 7.
+ */
+uint8_t bbfmm_aca_partial_pivoting(
+    size_t rows, size_t columns, const double *samples, size_t samples_length, double epsilon, double *u, size_t u_length,
+    double *v, size_t v_length, uint16_t *row_list, size_t row_list_length, uint16_t *column_list, size_t column_list_length,
+    double *row, size_t row_length, double *column, size_t column_length, size_t *counts, size_t counts_length, double *estimate,
+    size_t estimate_length);
+
+#ifdef __cplusplus
+}
+#endif
+
+#endif

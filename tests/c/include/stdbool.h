@@ -1,0 +1,6 @@
+/* Stands in for the C library's own, which the kit has not. */
+#ifndef __cplusplus
+#define bool _Bool
+#define true 1
+#define false 0
+#endif

@@ -1,20 +1,12 @@
--- An enum's answer says the number and the values. Assumes nothing.
-use mathlib.Core.Path.{_≡_, refl, sym, ap, _∙_}
-use mathlib.Core.Bool.{true, false, _&&_}
+-- An enum's answer says the call's number and its values: looking up, reference vectors, places. Assumes nothing.
+use mathlib.Core.Path.{_≡_, refl}
 use mathlib.Core.List.{List, [], _∷_}
 use Prim.Native.Nat.{ℕ, zero, suc}
 use native.Mathlib.Omega.{arith}
-use lib.Dec.{eqb, leb}
-use lib.Ieee.{Float}
 use lib.IntN.{ℤ}
-use lib.ListN.{length}
 use mir.Syntax.{w32}
 use mir.Val.{toZ, ofZ, SFits}
 use mir.Facts.{toZ-ofZ}
-use Rattle.common.specs.Refusals.{left}
-use Rattle.common.proofs.Cases.{by-bool}
-use Rattle.common.proofs.Limits.{left-done, left-refused}
-use Rattle.turn.specs.Working.{lower}
 use Rattle.turn.specs.declared.Vector.{Vector}
 use Rattle.turn.specs.declared.Entry.{Entry}
 use Rattle.turn.specs.declared.LookUp.the-variants as look
@@ -22,14 +14,9 @@ use Rattle.turn.specs.declared.Reference.the-variants as refer
 use Rattle.turn.specs.Vectors.{sizes}
 use Rattle.turn.specs.LookUps.{entries, lookUpNumber, entryOf, lookedUp, lookUp, referenceNumber, referenceAt, referred, referenceCall}
 use Rattle.aca.specs.Places.{placed}
-use Rattle.aca.specs.Runs.{Memory, laid, fits, report, acaNumber, approximation, answered, Call, call, acaCall}
-use Rattle.aca.specs.declared.Report.{Report}
-use Rattle.aca.specs.declared.Approximation.{Approximation}
-use Rattle.aca.specs.declared.Approximation.the-variants.{Refused, Done}
-use Rattle.bbfmm.specs.Answers.{withLength, told}
-use Rattle.bbfmm.specs.Told.{countsOf, crossNumber, crossed, crossTold}
-use Rattle.bbfmm.specs.Working.{placeTold, reportTold, unfitNumber}
-use Rattle.bbfmm.proofs.Lengths.{with-fit, told-refused}
+use Rattle.bbfmm.specs.Answers.{told}
+use Rattle.bbfmm.specs.Working.{placeTold}
+use Rattle.bbfmm.proofs.Lengths.{told-refused}
 
 -- LOOKING UP
 
@@ -81,50 +68,3 @@ pub place-told : (n k : ℕ) (lent : List ℕ) → placeTold (placed n k) lent �
 unfolding placeTold
 place-told zero k lent = refl
 place-told (suc n) k lent = told-refused (k ∷ []) lent (suc n) _ refl (λ z. omega arith)
-
--- CROSS APPROXIMATION
-
-report-told : (n : ℕ) (r : Report) (c : List ℕ) (e : List Float) →
-    reportTold (answered n r) c e ≡ (n, left n (countsOf r) c, left n (r .estimate ∷ []) e)
-unfolding reportTold
-report-told zero r c e = rw (left-done 0 (countsOf r) c refl, left-done 0 (r .estimate ∷ []) e refl)
-report-told (suc n) r c e =
-    let no : suc n ≡ 0 → ⊥ = λ z. omega arith in
-    rw (left-refused (suc n) (countsOf r) c no, left-refused (suc n) (r .estimate ∷ []) e no)
-
--- slices that do not fit: the counts are refused first, and nothing is written
-module _ (m n : ℕ) (a : List Float) (epsilon : Float) (t : Memory) (c : List ℕ) (e : List Float) where
-  unfit-is : eqb (length c) 3 && eqb (length e) 1 ≡ false → unfitNumber m n ≡ crossNumber m n a t c e
-  unfolding unfitNumber crossNumber withLength lower acaNumber
-  unfit-is h =
-      rw h (by-bool (leb m 1024 && leb n 1024) (λ l. rw l (by-bool (fits m n a t) (λ f. rw f) (λ f. rw f))) (λ l. rw l))
-
-  unfit-refuses : unfitNumber m n ≡ 0 → ⊥
-  unfolding unfitNumber
-  unfit-refuses = by-bool (leb m 1024 && leb n 1024) (λ l. rw l (λ z. omega arith)) (λ l. rw l (λ z. omega arith))
-
-  pub cross-unfit : (r : ℕ) → r ≡ unfitNumber m n → eqb (length c) 3 && eqb (length e) 1 ≡ false → crossed r t c e ≡ crossTold m n a epsilon t c e
-  unfolding crossTold
-  cross-unfit r h f =
-      let no = rw (unfit-is f) at unfit-refuses in
-      rw (
-        left-refused (crossNumber m n a t c e) (laid (approximation m n a epsilon t .found) t) t no,
-        left-refused (crossNumber m n a t c e) (countsOf (report (approximation m n a epsilon t))) c no,
-        left-refused (crossNumber m n a t c e) (report (approximation m n a epsilon t) .estimate ∷ []) e no,
-        h,
-        unfit-is f,
-      )
-
-  -- slices that fit: the answer of the run, in numbers
-  pub cross-fit : (r : Approximation) (t' : Memory) (number : ℕ) (c' : List ℕ) (e' : List Float) → eqb (length c) 3 && eqb (length e) 1 ≡ true →
-      call r t' ≡ acaCall m n a epsilon t → (number, c', e') ≡ reportTold r c e → crossed number t' c' e' ≡ crossTold m n a epsilon t c e
-  unfolding acaCall crossTold crossNumber
-  cross-fit r t' number c' e' f h g =
-      let own = acaNumber m n a t in
-      let end = approximation m n a epsilon t in
-      let same : crossNumber m n a t c e ≡ own = rw f (with-fit own) in
-      let answer : r ≡ answered own (report end) = ap (λ (x : Call). x .answer) h in
-      let leaves : t' ≡ left own (laid (end .found) t) t = ap (λ (x : Call). x .leaves) h in
-      let whole : _≡_ {A = ℕ × List ℕ × List Float} (number, c', e') (own, left own (countsOf (report end)) c, left own (report end .estimate ∷ []) e) =
-      g ∙ ap (λ (x : Approximation). reportTold x c e) answer ∙ report-told own (report end) c e in
-      rw (same, leaves) (ap (λ (x : ℕ × List ℕ × List Float). crossed (x .0) (left own (laid (end .found) t) t) (x .1) (x .2)) whole)

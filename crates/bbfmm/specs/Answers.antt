@@ -7,7 +7,7 @@ use lib.ListN.{length}
 use Rattle.common.specs.Refusals.{wrongLength, unless, left}
 use Rattle.turn.specs.Working.{lower}
 
--- the number of a call that would refuse with `own`, or with 0 not at all, and whose lent answer fits or not: the lowest wins
+-- the lower of a call's own number and the one that a lent answer of a wrong length brings, 0 being none
 unfoldable pub withLength : (own : ℕ) → (fits : Bool) → ℕ
 withLength own fits = lower own (unless fits wrongLength 0)
 

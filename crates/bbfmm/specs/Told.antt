@@ -1,6 +1,6 @@
--- What each call answers and leaves whose answer is more than a number.
+-- What each call answers and leaves whose answer goes into lent slices.
 use Prim.Native.Nat.{ℕ}
-use mathlib.Core.Bool.{cond, _&&_}
+use mathlib.Core.Bool.{Bool, cond, _&&_}
 use mathlib.Core.List.{List, [], _∷_}
 use lib.Dec.{eqb}
 use lib.Ieee.{Float}
@@ -41,8 +41,11 @@ cutoffTold l epsilon = told (cutoffNumber l) (cutoff l epsilon ∷ [])
 abbrev pub countsOf : Report → List ℕ
 countsOf r = r .rank ∷ r .stop ∷ r .«rows_read» ∷ []
 
+abbrev pub reportFits : (counts : List ℕ) → (estimate : List Float) → Bool
+reportFits c e = eqb (length c) 3 && eqb (length e) 1
+
 unfoldable pub crossNumber : (m n : ℕ) → (samples : List Float) → Memory → (counts : List ℕ) → (estimate : List Float) → ℕ
-crossNumber m n a t c e = withLength (acaNumber m n a t) (eqb (length c) 3 && eqb (length e) 1)
+crossNumber m n a t c e = withLength (acaNumber m n a t) (reportFits c e)
 
 -- the number, the memory of the run, and both slices
 pub record Crossed : Type 0 where

@@ -23,6 +23,6 @@ unfoldable pub reportTold : Approximation → (counts : List ℕ) → (estimate 
 reportTold (made.Refused n) c e = (n, c, e)
 reportTold (made.Done r) c e = (0, countsOf r, r .estimate ∷ [])
 
--- the number of a call whose report does not fit
+-- the number of a call whose report does not fit: too many rows or columns are refused first
 unfoldable pub unfitNumber : (m n : ℕ) → ℕ
 unfitNumber m n = unless (leb m 1024 && leb n 1024) noCount wrongLength

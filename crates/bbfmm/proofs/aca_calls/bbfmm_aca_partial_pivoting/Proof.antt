@@ -1,11 +1,6 @@
 -- `bbfmm::aca_calls::bbfmm_aca_partial_pivoting` meets its contract: slices that do not fit, or what the run answers, in numbers. Assumes nothing.
 use borrow.Author.Needs.{needs}
-use borrow.Author.Tests.{eq-eqb, ne-eqb}
-use mathlib.Core.Path.{_≡_}
-use mathlib.Core.Bool.{true, false, _&&_}
-use lib.Dec.{eqb}
-use lib.ListN.{length}
-use Rattle.bbfmm.proofs.Numbers.{cross-unfit, cross-fit}
+use Rattle.bbfmm.proofs.Reports.{fit-both, unfit-counts, unfit-estimate, cross-unfit, cross-fit}
 use Rattle.bbfmm.proofs.aca_calls.bbfmm_aca_partial_pivoting.Statement.{statement}
 use Rattle.bbfmm.proofs.aca_calls.bbfmm_aca_partial_pivoting.Tie as tie
 
@@ -15,8 +10,8 @@ unfit-number-requires c κs = search needs
 returns : tie.Need-returns
 returns c =
     let a = c .before .before .before .before .before .before .before .before .before .before .before .args in
-    let unfit : eqb (length (a .counts .now)) 3 && eqb (length (a .estimate .now)) 1 ≡ false = rw (ne-eqb (length (a .counts .now)) 3 (c .before .if1 .taken)) in
-    cross-unfit (a .rows) (a .columns) (a .samples .now) (a .epsilon) _ _ _ _ (c .unfit-number .ensures) unfit
+    cross-unfit (a .rows) (a .columns) (a .samples .now) (a .epsilon) _ _ _ _ (c .unfit-number .ensures)
+    (unfit-counts (a .counts .now) (a .estimate .now) (c .before .if1 .taken))
 
 unfit-number-requires-2 : tie.Need-unfit-number-requires-2
 unfit-number-requires-2 c κs = search needs
@@ -24,8 +19,8 @@ unfit-number-requires-2 c κs = search needs
 returns-2 : tie.Need-returns-2
 returns-2 c =
     let a = c .before .before .before .before .before .before .before .before .before .before .before .before .args in
-    let unfit : eqb (length (a .counts .now)) 3 && eqb (length (a .estimate .now)) 1 ≡ false = rw (eq-eqb (length (a .counts .now)) 3 (c .before .before .if1 .left), ne-eqb (length (a .estimate .now)) 1 (c .before .if2 .taken)) in
-    cross-unfit (a .rows) (a .columns) (a .samples .now) (a .epsilon) _ _ _ _ (c .unfit-number2 .ensures) unfit
+    cross-unfit (a .rows) (a .columns) (a .samples .now) (a .epsilon) _ _ _ _ (c .unfit-number2 .ensures)
+    (unfit-estimate (a .counts .now) (a .estimate .now) (c .before .before .if1 .left) (c .before .if2 .taken))
 
 aca-partial-pivoting-requires : tie.Need-aca-partial-pivoting-requires
 aca-partial-pivoting-requires c κs = search needs
@@ -63,8 +58,9 @@ returns-3 c =
     let made = told .before .before .before .before .before .before .before .before .before .before .before .before .before .before .before in
     let passed = made .before .before .before .before .before .before .before in
     let a = passed .before .before .before .before .before .before .before .before .before .before .before .args in
-    let fit : eqb (length (a .counts .now)) 3 && eqb (length (a .estimate .now)) 1 ≡ true = rw (eq-eqb (length (a .counts .now)) 3 (passed .before .if1 .left), eq-eqb (length (a .estimate .now)) 1 (passed .if2 .left)) in
-    cross-fit (a .rows) (a .columns) (a .samples .now) (a .epsilon) _ _ _ _ _ _ _ _ fit (made .aca-partial-pivoting .ensures) (told .tell-report .ensures)
+    cross-fit (a .rows) (a .columns) (a .samples .now) (a .epsilon) _ _ _ _ _ _ _ _
+    (fit-both (a .counts .now) (a .estimate .now) (passed .before .if1 .left) (passed .if2 .left))
+    (made .aca-partial-pivoting .ensures) (told .tell-report .ensures)
 
 pub bbfmm-aca-partial-pivoting-spec : {M : Type 1} → statement M
 bbfmm-aca-partial-pivoting-spec =

@@ -1,8 +1,7 @@
 -- `bbfmm::aca_calls::tell_report` meets its contract: each arm by its variant. Assumes nothing.
 use borrow.Author.Needs.{needs}
-use mathlib.Core.Path.{_≡_, refl}
 use native.Mathlib.Omega.{arith}
-use lib.ListN.{length, length-set}
+use lib.ListN.{length-set}
 use Rattle.bbfmm.specs.Working.{reportTold}
 use Rattle.bbfmm.proofs.Lengths.{stored-one, stored-three}
 use Rattle.bbfmm.proofs.aca_calls.tell_report.Statement.{statement}

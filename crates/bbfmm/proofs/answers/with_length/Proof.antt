@@ -1,7 +1,7 @@
 -- `bbfmm::answers::with_length` meets its contract: each return by its tests. Assumes nothing.
 use mathlib.Core.Path.{sym}
 use native.Mathlib.Omega.{arith}
-use borrow.Author.Tests.{eq-eqb, ne-eqb}
+use borrow.Author.Tests.{ne-eqb}
 use Rattle.turn.specs.Working.{lower}
 use Rattle.bbfmm.specs.Answers.{withLength}
 use Rattle.bbfmm.proofs.Lengths.{with-fit}

@@ -1,8 +1,6 @@
 -- `bbfmm::choices_calls::bbfmm_argmax_masked` meets its contract: what is told is the place that the call answers. Assumes nothing.
 use borrow.Author.Needs.{needs}
 use mathlib.Core.Path.{ap, _∙_}
-use mathlib.Core.List.{List}
-use Prim.Native.Nat.{ℕ}
 use Rattle.aca.specs.declared.Place.{Place}
 use Rattle.aca.specs.Argmax.{argmaxCall}
 use Rattle.bbfmm.specs.Told.{argmaxTold}
@@ -24,7 +22,9 @@ returns : tie.Need-returns
 unfolding argmaxTold argmaxCall
 returns c =
     let lent = c .before .before .before .before .before .before .before .before .args .place .now in
-    c .before .before .tell-place .ensures ∙ ap (λ (p : Place). placeTold p lent) (c .before .before .before .before .argmax-masked .ensures) ∙ place-told _ _ lent
+    c .before .before .tell-place .ensures
+    ∙ ap (λ (p : Place). placeTold p lent) (c .before .before .before .before .argmax-masked .ensures)
+    ∙ place-told _ _ lent
 
 pub bbfmm-argmax-masked-spec : {M : Type 1} → statement M
 bbfmm-argmax-masked-spec =

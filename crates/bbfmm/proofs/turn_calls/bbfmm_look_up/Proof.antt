@@ -3,11 +3,9 @@ use borrow.Author.Needs.{needs}
 use borrow.Author.Tests.{eqb-true}
 use mathlib.Core.Path.{_≡_, refl, sym, _∙_}
 use mathlib.Core.Bool.{Bool, true, false, cond}
-use mathlib.Core.List.{[], _∷_}
 use native.Mathlib.Omega.{arith}
 use lib.ListN.{length, length-set}
 use mir.Val.{boolByte}
-use Rattle.turn.specs.declared.LookUp.the-variants.{Refused, Found}
 use Rattle.turn.specs.LookUps.{lookUp}
 use Rattle.bbfmm.specs.Told.{lookUpTold}
 use Rattle.bbfmm.proofs.Lengths.{told-refused, told-unfit, told-done, stored-four}

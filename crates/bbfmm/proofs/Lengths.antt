@@ -7,10 +7,9 @@ use native.Mathlib.Omega.{arith}
 use lib.Dec.{eqb}
 use lib.ListN.{length, set}
 use borrow.Author.Tests.{ne-eqb}
-use Rattle.common.specs.Refusals.{wrongLength}
+use Rattle.common.specs.Refusals.{wrongLength, lower}
 use Rattle.common.proofs.Cases.{by-eq}
 use Rattle.common.proofs.Limits.{call-refused, call-done}
-use Rattle.turn.specs.Working.{lower}
 use Rattle.bbfmm.specs.Answers.{withLength, told}
 
 -- THE NUMBER

@@ -13,7 +13,7 @@ use Rattle.turn.specs.declared.LookUp.the-variants as look
 use Rattle.turn.specs.declared.Reference.the-variants as refer
 use Rattle.turn.specs.Vectors.{sizes}
 use Rattle.turn.specs.LookUps.{entries, lookUpNumber, entryOf, lookedUp, lookUp, referenceNumber, referenceAt, referred, referenceCall}
-use Rattle.aca.specs.Places.{placed}
+use Rattle.choices.specs.Places.{placed}
 use Rattle.bbfmm.specs.Answers.{told}
 use Rattle.bbfmm.specs.Working.{placeTold}
 use Rattle.bbfmm.proofs.Lengths.{told-refused}

@@ -8,11 +8,11 @@ use lib.Dec.{leb}
 use lib.Ieee.{Float}
 use lib.ListN.{length}
 use borrow.Author.Tests.{eq-eqb, ne-eqb}
-use Rattle.common.specs.Refusals.{left}
+use Rattle.common.specs.Refusals.{left, lower}
 use Rattle.common.proofs.Cases.{by-bool}
 use Rattle.common.proofs.Limits.{left-done, left-refused}
-use Rattle.turn.specs.Working.{lower}
-use Rattle.aca.specs.Runs.{Memory, laid, fits, report, acaNumber, approximation, answered, Call, call, acaCall}
+use Rattle.steps.specs.Memories.{Memory, laid}
+use Rattle.aca.specs.Runs.{fits, report, lengths, acaNumber, approximation, answered, Call, call, acaCall}
 use Rattle.aca.specs.declared.Report.{Report}
 use Rattle.aca.specs.declared.Approximation.{Approximation}
 use Rattle.bbfmm.specs.Answers.{withLength}
@@ -45,7 +45,7 @@ module _ (m n : ℕ) (a : List Float) (epsilon : Float) (t : Memory) (c : List �
   unfit-is : reportFits c e ≡ false → unfitNumber m n ≡ crossNumber m n a t c e
   unfolding unfitNumber crossNumber withLength lower acaNumber
   unfit-is h =
-      rw h (by-bool (leb m 1024 && leb n 1024) (λ l. rw l (by-bool (fits m n a t) (λ f. rw f) (λ f. rw f))) (λ l. rw l))
+      rw h (by-bool (leb m 1024 && leb n 1024) (λ l. rw l (by-bool (fits m n (lengths a t)) (λ f. rw f) (λ f. rw f))) (λ l. rw l))
 
   unfit-refuses : unfitNumber m n ≡ 0 → ⊥
   unfolding unfitNumber
@@ -70,7 +70,7 @@ module _ (m n : ℕ) (a : List Float) (epsilon : Float) (t : Memory) (c : List �
       call r t' ≡ acaCall m n a epsilon t → (number, c', e') ≡ reportTold r c e → crossed number t' c' e' ≡ crossTold m n a epsilon t c e
   unfolding acaCall crossTold crossNumber
   cross-fit r t' number c' e' f h g =
-      let own = acaNumber m n a t in
+      let own = acaNumber m n (lengths a t) in
       let end = approximation m n a epsilon t in
       let same : crossNumber m n a t c e ≡ own = rw f (with-fit own) in
       let answer : r ≡ answered own (report end) = ap (λ (x : Call). x .answer) h in

@@ -4,8 +4,7 @@ use mathlib.Core.Bool.{Bool}
 use mathlib.Core.List.{List}
 use lib.Dec.{eqb}
 use lib.ListN.{length}
-use Rattle.common.specs.Refusals.{wrongLength, unless, left}
-use Rattle.turn.specs.Working.{lower}
+use Rattle.common.specs.Refusals.{wrongLength, unless, left, lower}
 
 -- the lower of a call's own number and the one that a lent answer of a wrong length brings, 0 being none
 unfoldable pub withLength : (own : ℕ) → (fits : Bool) → ℕ

@@ -11,9 +11,11 @@ use Rattle.turn.specs.declared.Vector.{Vector}
 use Rattle.turn.specs.declared.Entry.{Entry}
 use Rattle.turn.specs.Vectors.{sizes}
 use Rattle.turn.specs.LookUps.{entries, lookUpNumber, entryOf, referenceNumber, referenceAt}
-use Rattle.aca.specs.Argmax.{argmax, counts, argmaxNumber}
-use Rattle.aca.specs.Cutoff.{cutoff, cutoffNumber}
-use Rattle.aca.specs.Runs.{Memory, laid, report, acaNumber, approximation}
+use Rattle.lines.specs.Largest.{argmax, counts}
+use Rattle.choices.specs.Argmax.{argmaxNumber}
+use Rattle.choices.specs.Cutoff.{cutoff, cutoffNumber}
+use Rattle.steps.specs.Memories.{Memory, laid}
+use Rattle.aca.specs.Runs.{report, lengths, acaNumber, approximation}
 use Rattle.aca.specs.declared.Report.{Report}
 use Rattle.bbfmm.specs.Answers.{withLength, told}
 
@@ -45,7 +47,7 @@ abbrev pub reportFits : (counts : List ℕ) → (estimate : List Float) → Bool
 reportFits c e = eqb (length c) 3 && eqb (length e) 1
 
 unfoldable pub crossNumber : (m n : ℕ) → (samples : List Float) → Memory → (counts : List ℕ) → (estimate : List Float) → ℕ
-crossNumber m n a t c e = withLength (acaNumber m n a t) (reportFits c e)
+crossNumber m n a t c e = withLength (acaNumber m n (lengths a t)) (reportFits c e)
 
 -- the number, the memory of the run, and both slices
 pub record Crossed : Type 0 where

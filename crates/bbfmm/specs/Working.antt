@@ -6,8 +6,8 @@ use lib.Dec.{eqb, leb}
 use lib.Ieee.{Float}
 use lib.ListN.{length}
 use Rattle.common.specs.Refusals.{noCount, wrongLength, unless}
-use Rattle.aca.specs.declared.Place.{Place}
-use Rattle.aca.specs.declared.Place.the-variants as place
+use Rattle.choices.specs.declared.Place.{Place}
+use Rattle.choices.specs.declared.Place.the-variants as place
 use Rattle.aca.specs.declared.Approximation.{Approximation}
 use Rattle.aca.specs.declared.Approximation.the-variants as made
 use Rattle.bbfmm.specs.Answers.{withLength, told}

@@ -1,7 +1,7 @@
 // Cross approximation, with its report in two lent slices.
 ghost use mathlib.Core.Path.{_≡_};
 ghost use lib.ListN.{length};
-ghost use Rattle.aca.specs.Runs.{memory};
+ghost use Rattle.steps.specs.Memories.{memory};
 ghost use Rattle.bbfmm.specs.Told.{crossed, crossTold};
 ghost use Rattle.bbfmm.specs.Working.{unfitNumber, reportTold};
 use aca::Approximation;

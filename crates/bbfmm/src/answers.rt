@@ -9,11 +9,5 @@ pub(crate) fn with_length(own: u8, is_fit: bool) -> u8
     if is_fit {
         return own;
     }
-    if own == 0 {
-        return common::WRONG_LENGTH;
-    }
-    if own < common::WRONG_LENGTH {
-        return own;
-    }
-    common::WRONG_LENGTH
+    common::lower_of(own, common::WRONG_LENGTH)
 }

@@ -3,9 +3,9 @@ ghost use mathlib.Core.Path.{_≡_};
 ghost use Rattle.bbfmm.specs.Told.{argmaxTold, cutoffTold};
 ghost use Rattle.bbfmm.specs.Working.{placeTold};
 use crate::answers::with_length;
-use aca::Place;
-use aca::argmax_masked;
-use aca::calculate_singular_values_cutoff;
+use choices::Place;
+use choices::argmax_masked;
+use choices::calculate_singular_values_cutoff;
 
 // A place in the lent answer, or a refusal.
 fn tell_place(found: Place, place: &mut [usize]) -> u8

@@ -9,14 +9,14 @@ use lib.Dec.{eqb}
 use lib.IntN.{ℤ, pos, negsuc, natAbs, negℤ, _+ℤ_, _*ℤ_, negℤ-+ℤ, pos-*ℤ-negsuc}
 use lib.ListN.{length, getD}
 use borrow.Author.Tests.{lt-ltb, eq-eqb}
-use Rattle.common.specs.Digits.{number}
+use Rattle.common.specs.Digits.{number, digit}
 use Rattle.common.specs.Refusals.{Shape}
 use Rattle.common.specs.Lists.{tabulate}
-use Rattle.common.proofs.Cases.{inside}
+use Rattle.common.proofs.Cases.{by-last, inside}
 use Rattle.common.proofs.Digits.{digit-number, digit-below, number-below}
 use Rattle.common.proofs.Fill.{getD-tabulate}
 use Rattle.common.proofs.Limits.{left-done}
-use Rattle.turn.specs.Order.{axis, order, sorted}
+use Rattle.turn.specs.Order.{factorial, skip, axis, largest, order, sorted}
 use Rattle.turn.specs.Vectors.{sizes, sign, case, near, entry, reference}
 use Rattle.turn.specs.Turned.{reversed, negative, axisOf, turned, returned}
 use Rattle.turn.specs.Tables.{cases, tableNumber, tableCall}
@@ -181,3 +181,16 @@ calls-are-right D p v r e table inverse table' inverse' ok far lt lu he hr ht hu
     (λ n b. ap (λ (x : ℕ × List ℕ). getD (x .1) n 0) (sym (rw k at ht)) ∙ filled D p (case D w) _ table ok (case-below D w) lt n b)
     (λ n b. ap (λ (x : ℕ × List ℕ). getD (x .1) n 0) (sym (rw k at hu)) ∙ filled D p (case D w) _ inverse ok (case-below D w) lu n b)
     (λ n _. returned-below D p (case D w) (ok .order-least) n) (turns D p w (ok .order-least))
+
+-- THE IDENTITY IS NO TURN: with two nodes at -1 and 1, vector -2 has distance -6 from node 0 to node 1, and its reference 2 has 2
+
+two-nodes : ℕ → ℤ
+two-nodes zero = negsuc 0
+two-nodes (suc i) = pos 1
+
+pub identity-is-wrong : Turns 1 2 (λ m. 2) (λ a. negsuc 1) (λ n. n) (λ n. n) → ⊥
+unfolding distance digit two-nodes axis order largest skip factorial
+identity-is-wrong w =
+    let mirrored : Mirrored 2 two-nodes = λ i h. by-last i 1 h (λ e. rw e refl) (λ l. let e : i ≡ 0 = omega arith in rw e refl) in
+    let same : _≡_ {A = ℕ} 2 6 = w .distances two-nodes mirrored 0 1 0 (omega arith) (omega arith) (omega arith) in
+    omega arith

@@ -1,8 +1,8 @@
 -- `bbfmm::choices_calls::bbfmm_calculate_singular_values_cutoff` meets its contract: what is told is the place that the call answers. Assumes nothing.
 use borrow.Author.Needs.{needs}
 use mathlib.Core.Path.{ap, _∙_}
-use Rattle.aca.specs.declared.Place.{Place}
-use Rattle.aca.specs.Cutoff.{cutoffCall}
+use Rattle.choices.specs.declared.Place.{Place}
+use Rattle.choices.specs.Cutoff.{cutoffCall}
 use Rattle.bbfmm.specs.Told.{cutoffTold}
 use Rattle.bbfmm.specs.Working.{placeTold}
 use Rattle.bbfmm.proofs.Numbers.{place-told}

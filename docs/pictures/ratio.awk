@@ -25,7 +25,7 @@ function example(place, n2, o2, co, right,    d, x, y, factor) {
     x = across(d)
     y = up(factor)
     printf "<circle cx=\"%g\" cy=\"%g\" r=\"5\" fill=\"#b03030\"/>\n", x, y >out
-    text(x + (right ? -10 : 8), y - 10, 13, right ? "end" : "start", place sprintf(": %.3f times", factor))
+    text(x + (right ? -10 : 8), y - 10, 13, right ? "end" : "start", place sprintf(", %.4g %%: %.3f times", d, factor))
 }
 
 BEGIN {
@@ -37,7 +37,7 @@ BEGIN {
         line(80, up(factor), 680, up(factor), "stroke=\"#ddd\"")
         text(72, up(factor) + 4, 12, "end", factor " times")
     }
-    ticks = split("20 10 3 1 0.3 0.1 0.03 0.0156", tick, " ")
+    ticks = split("20 10 3 1 0.3 0.1 0.03", tick, " ")
     for (i = 1; i <= ticks; i++) {
         line(across(tick[i]), 300, across(tick[i]), 306, "stroke=\"#333\"")
         text(across(tick[i]), 322, 12, "middle", tick[i] " %")

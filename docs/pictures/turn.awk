@@ -9,9 +9,12 @@ function line(x1, y1, x2, y2, look) {
     printf "<line x1=\"%g\" y1=\"%g\" x2=\"%g\" y2=\"%g\" %s/>\n", x1, y1, x2, y2, look
 }
 
-# A block with its upper left corner at (x, y): node k of the reference stands where `at` says.
-function block(x, y, name,    k, row, column) {
+# A block with its upper left corner at (x, y), and its nodes: node k of the reference stands where `at` says.
+function block(x, y) {
     printf "<rect x=\"%g\" y=\"%g\" width=\"%g\" height=\"%g\" fill=\"#f4f7fb\" stroke=\"#33567f\"/>\n", x, y, side, side
+}
+
+function nodes(x, y, name,    k, row, column) {
     for (k = 0; k < p * p; k++) {
         row = int(at[k] / p)
         column = at[k] % p
@@ -24,10 +27,12 @@ function place(i) { return step / 2 + i * step }
 
 # A target block at (x, y), and its source block a vector (a, b) of blocks away.
 function pair(x, y, a, b) {
+    block(x, y)
+    block(x + b * side, y + a * side)
     line(x + place(at[from] % p), y + place(int(at[from] / p)),
         x + b * side + place(at[to] % p), y + a * side + place(int(at[to] / p)), "stroke=\"#b03030\" stroke-width=\"2\"")
-    block(x, y, "target")
-    block(x + b * side, y + a * side, "source")
+    nodes(x, y, "target")
+    nodes(x + b * side, y + a * side, "source")
     text(x + side / 2, y - 8, 12, "middle", "target block")
     text(x + b * side + side / 2, y + a * side + side + 16, 12, "middle", "source block")
 }

@@ -53,7 +53,7 @@ pub fn lookups(all: &[Tables]) -> Result<(), String> {
             || pair[0].case_of != pair[1].case_of
             || pair[0].reference_of != pair[1].reference_of
         {
-            return Err(String::from("a case or a reference hangs on the order"));
+            return Err(String::from("a case or a reference depends on the order"));
         }
     }
     Ok(())

@@ -80,7 +80,7 @@ pub fn drawn(random: &mut Random, epsilon: f64) -> Vec<Block> {
 /// The smallest blocks whose ranks hang on the order in which a product adds.
 ///
 /// In the first, the test after the second term is one of 18 against a quarter of 72, either of
-/// which may round. Blocks with fewer entries have at most two terms, and the rank of those hangs on
+/// which may round. Blocks with fewer entries have at most two terms, and the rank of those depends on
 /// no sum of three products, unless it overflows: so it does in the second, after the first term.
 pub fn order_matters() -> [Block; 2] {
     let equal = [[1.0, -2.0, 5.0], [-4.0, 5.0, -2.0], [-1.0, -1.0, 4.0]];

@@ -1,4 +1,4 @@
-//! Shows what hangs on the order of adding: blocks are run in rising and in falling index.
+//! Shows what depends on the order of adding: blocks are run in rising and in falling index.
 
 use crate::cross::{self, Block, Factors};
 use crate::cross_blocks::{self, EPSILONS};

@@ -1,7 +1,7 @@
 //! The rule of the cross approximation in our own words, where the order of adding is left open.
 //!
 //! The text leaves that order to the matrix crate. A run in rising index is held equal to the text
-//! with our stand-in for that crate; a run in falling index shows what hangs on the order.
+//! with our stand-in for that crate; a run in falling index shows what depends on the order.
 
 use crate::cross::{Block, Cross, Factors};
 use oracle::aca::reach::argmax;

@@ -1,3 +1,4 @@
 pub mod Fronts
 pub mod Marked
 pub mod OneStep
+pub mod Determined

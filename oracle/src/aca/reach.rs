@@ -1,4 +1,4 @@
-//! Opens the private function of aca.rs: a child may call what its parent keeps private.
+//! Opens two functions of aca.rs, one of them private: a child may call what its parent keeps private.
 
 // The parent silences warnings for the text; our own code must not hide behind that.
 #![warn(clippy::all, dead_code, unused_imports)]

@@ -1,0 +1,84 @@
+//! Nodes, polynomials and their derivatives.
+
+use bbfmm::{evaluate_chebyshev_polynomials, generate_chebyshev_nodes};
+
+use crate::draw::Draw;
+use crate::held::{Tally, bits};
+use crate::rule;
+use crate::rule::chebyshev::{cosines, evaluate};
+
+/// What the Rust that was ported answers, written down: the line of an order begins with 'nodes' and its number.
+const WRITTEN: &str = include_str!("../../../../crates/replay_floats/stdout");
+
+/// The nodes of an order as the Rust's bits.
+fn written(order: usize) -> Vec<u64> {
+    let start = format!("nodes {order}: ");
+    let line = WRITTEN.lines().find_map(|line| line.strip_prefix(&start));
+    let words = line.expect("a line for each order").split_whitespace();
+    words
+        .map(|word| u64::from_str_radix(word, 16).expect("hex"))
+        .collect()
+}
+
+#[test]
+fn nodes_are_the_ports() {
+    for order in 1..=16 {
+        let mut nodes = vec![f64::NAN; order];
+        generate_chebyshev_nodes(order, &mut nodes).expect("an order");
+        assert_eq!(bits(&nodes), written(order), "order {order}");
+        for (node, cosine) in nodes.iter().zip(cosines(order)) {
+            assert!((node - cosine).abs() <= f64::EPSILON, "order {order}");
+        }
+    }
+}
+
+#[test]
+fn nodes_are_refused() {
+    let mut draw = Draw::new(3);
+    let mut tally = Tally::default();
+    for _ in 0..4_000 {
+        let order = draw.number(1..=16);
+        let before = [draw.lent(order.min(17))];
+        let mut lent = before.clone();
+        let answer = generate_chebyshev_nodes(order, &mut lent[0]);
+        let faults = [rule::bad_length(&lent[0], &[order]), rule::bad_order(order)];
+        let written = || [written(order).into_iter().map(f64::from_bits).collect()];
+        let ruled = rule::refusal(&faults).map(|()| written());
+        tally.floats(&order, &answer, ruled, [&before, &lent]);
+    }
+    tally.reached("generate_chebyshev_nodes", &[0, 2, 7]);
+}
+
+/// Few points, or as many as may be, or one more.
+fn count(draw: &mut Draw) -> usize {
+    match draw.below(40) {
+        0 => 4_096,
+        1 => 4_097,
+        _ => draw.below(30),
+    }
+}
+
+#[test]
+fn polynomials_are_ruled() {
+    let mut draw = Draw::new(4);
+    let mut tally = Tally::default();
+    for _ in 0..6_000 {
+        let order = draw.number(1..=16);
+        let count = count(&mut draw);
+        let points = draw.floats(count);
+        let right = points.len() * order.min(17);
+        let wanted = draw.one_in(2);
+        let unwanted = vec![];
+        let before = [
+            draw.lent(right),
+            if wanted { draw.lent(right) } else { unwanted },
+        ];
+        let mut lent = before.clone();
+        let [tn, dtn] = &mut lent;
+        let dtn = wanted.then_some(dtn.as_mut_slice());
+        let answer = evaluate_chebyshev_polynomials(order, &points, tn, dtn);
+        let ruled = evaluate(order, &points, [&before[0], &before[1]], wanted);
+        tally.floats(&(order, &points, wanted), &answer, ruled, [&before, &lent]);
+    }
+    tally.reached("evaluate_chebyshev_polynomials", &[0, 2, 3, 7]);
+}

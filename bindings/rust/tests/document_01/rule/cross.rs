@@ -1,0 +1,122 @@
+//! Cross approximation, a step at a time.
+
+use super::choices::argmax;
+use super::{bad_length, dot, refusal};
+
+/// The least pivot.
+const LEAST: f64 = f64::EPSILON;
+
+/// A block of samples, column-major.
+#[derive(Clone, Copy)]
+pub struct Block<'a> {
+    pub rows: usize,
+    pub columns: usize,
+    pub samples: &'a [f64],
+}
+
+impl Block<'_> {
+    fn at(&self, row: usize, column: usize) -> f64 {
+        self.samples[row + column * self.rows]
+    }
+
+    pub fn lesser(&self) -> usize {
+        self.rows.min(self.columns)
+    }
+}
+
+/// What a run has found so far.
+#[derive(Default)]
+pub struct Run {
+    /// The terms, each a column of U and one of V.
+    pub u: Vec<Vec<f64>>,
+    pub v: Vec<Vec<f64>>,
+    /// The rows and the columns that were read, in order.
+    pub rows: Vec<usize>,
+    pub columns: Vec<usize>,
+    pub estimate: f64,
+    /// The row and the column that were last worked on.
+    pub row: Vec<f64>,
+    pub column: Vec<f64>,
+    next: usize,
+}
+
+impl Run {
+    /// An entry of the block, less the sum of the earlier terms there.
+    fn rest(&self, block: &Block, row: usize, column: usize) -> f64 {
+        let u = self.u.iter().map(|term| term[row]);
+        let v = self.v.iter().map(|term| term[column]);
+        block.at(row, column) - dot(u, v)
+    }
+
+    /// Reads a row, picks a column and scales the row; or says that the row is spent.
+    fn read_row(&mut self, block: &Block) -> Option<usize> {
+        let i = self.next;
+        self.rows.push(i);
+        self.row = (0..block.columns).map(|j| self.rest(block, i, j)).collect();
+        let j = argmax(&self.row, |at| !self.columns.contains(&at));
+        let pivot = self.row[j];
+        if pivot.abs() < LEAST {
+            return None;
+        }
+        self.row.iter_mut().for_each(|entry| *entry *= 1.0 / pivot);
+        Some(j)
+    }
+
+    /// Reads a column and picks the next row.
+    fn read_column(&mut self, block: &Block, j: usize) {
+        self.columns.push(j);
+        self.column = (0..block.rows).map(|i| self.rest(block, i, j)).collect();
+        self.next = argmax(&self.column, |at| !self.rows.contains(&at));
+    }
+
+    /// One step, and why the run ends with it, if it does: 1 tolerance, 2 spent, 3 iterations used.
+    fn step(&mut self, block: &Block, epsilon: f64) -> Option<u8> {
+        let Some(j) = self.read_row(block) else {
+            return Some(2);
+        };
+        self.read_column(block, j);
+        let product = |l: &[f64], r: &[f64]| dot(l.iter().copied(), r.iter().copied());
+        let with_u = self.u.iter().map(|term| product(term, &self.column));
+        let with_v = self.v.iter().map(|term| product(term, &self.row));
+        let cross = dot(with_u, with_v);
+        let norm = product(&self.column, &self.column) * product(&self.row, &self.row);
+        self.estimate += norm + 2.0 * cross;
+        self.u.push(self.column.clone());
+        self.v.push(self.row.clone());
+        if norm <= (epsilon * epsilon) * self.estimate {
+            return Some(1);
+        }
+        (self.u.len() == block.lesser()).then_some(3)
+    }
+}
+
+/// What is lent in floats: U, V, row, column.
+pub type Floats = [Vec<f64>; 4];
+/// The two lists that are lent: rows, columns.
+pub type Lists = [Vec<u16>; 2];
+
+/// The whole run, and why it ended.
+pub fn run(block: Block, epsilon: f64, floats: &Floats, lists: &Lists) -> Result<(Run, u8), u8> {
+    let Block {
+        rows,
+        columns,
+        samples,
+    } = block;
+    let lesser = block.lesser();
+    refusal(&[
+        bad_length(samples, &[rows, columns]),
+        bad_length(&floats[0], &[rows, lesser]),
+        bad_length(&floats[1], &[columns, lesser]),
+        bad_length(&floats[2], &[columns]),
+        bad_length(&floats[3], &[rows]),
+        bad_length(&lists[0], &[lesser]),
+        bad_length(&lists[1], &[lesser]),
+        (3, rows > 1024 || columns > 1024),
+    ])?;
+    let mut run = Run::default();
+    let mut stop = (lesser == 0).then_some(3);
+    while stop.is_none() {
+        stop = run.step(&block, epsilon);
+    }
+    Ok((run, stop.expect("the loop ended")))
+}

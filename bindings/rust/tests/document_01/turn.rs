@@ -1,0 +1,159 @@
+//! Vectors, references and tables.
+
+use bbfmm::{combined_permutation, inverse_permutation, look_up, reference_vector};
+
+use crate::draw::Draw;
+use crate::held::Tally;
+use crate::rule::turn as rule;
+use crate::rule::{indices, node};
+
+/// More than all dimensions.
+const DIMENSIONS: [usize; 7] = [0, 1, 2, 3, 4, 5, usize::MAX];
+/// More than all entries of a vector.
+const ENTRIES: [i32; 13] = [i32::MIN, -4, -3, -2, -1, 0, 1, 2, 3, 4, 7, 256, i32::MAX];
+
+#[test]
+fn every_vector_is_looked_up() {
+    let mut tally = Tally::default();
+    for case in 0..DIMENSIONS.len() * ENTRIES.len().pow(3) {
+        let entry = |place: u32| ENTRIES[case / ENTRIES.len().pow(place) % ENTRIES.len()];
+        let vector = [entry(0), entry(1), entry(2)];
+        let dimension = DIMENSIONS[case / ENTRIES.len().pow(3)];
+        let answer = look_up(dimension, vector);
+        let ruled = rule::look_up(dimension, vector);
+        if let Some(expected) = tally.number(&(dimension, vector), &answer, ruled) {
+            let entry = answer.expect("it is no refusal");
+            let found = (entry.index, entry.case, entry.reference, entry.near);
+            assert_eq!(found, expected, "{vector:?}");
+        }
+    }
+    tally.reached("look_up", &[0, 1, 4, 6]);
+}
+
+#[test]
+fn every_reference_vector_is_told() {
+    let mut tally = Tally::default();
+    for dimension in DIMENSIONS {
+        for number in (0..40).chain([usize::MAX - 1, usize::MAX]) {
+            let answer = reference_vector(dimension, number);
+            let ruled = rule::reference_vector(dimension, number);
+            if let Some(expected) = tally.number(&(dimension, number), &answer, ruled) {
+                assert_eq!(answer, Ok(expected));
+            }
+        }
+    }
+    tally.reached("reference_vector", &[0, 1, 5]);
+}
+
+/// Both tables of a case, in lent buffers that come full of a pattern.
+fn tables_are_ruled(tally: &mut Tally, case: [usize; 3], lent: Vec<u16>) {
+    let [dimension, order, number] = case;
+    let ruled = rule::tables(dimension, order, number, &lent);
+    let calls = [combined_permutation, inverse_permutation];
+    for (place, call) in calls.into_iter().enumerate() {
+        let mut table = lent.clone();
+        let answer = call(dimension, order, number, &mut table);
+        match tally.number(&case, &answer, ruled.clone()) {
+            Some(expected) => assert_eq!(table, expected[place], "{case:?}"),
+            None => assert_eq!(table, lent, "{case:?}"),
+        }
+    }
+}
+
+#[test]
+fn every_table_is_ruled() {
+    let mut tally = Tally::default();
+    for dimension in 1..=3 {
+        for order in 1..=16usize {
+            for case in 0..[2, 8, 48][dimension - 1] {
+                let lent = vec![0xa5a5; order.pow(dimension as u32)];
+                tables_are_ruled(&mut tally, [dimension, order, case], lent);
+            }
+        }
+    }
+    tally.reached("all tables", &[0]);
+}
+
+#[test]
+fn tables_are_refused() {
+    let mut draw = Draw::new(1);
+    let mut tally = Tally::default();
+    for _ in 0..20_000 {
+        let dimension = draw.number(1..=3);
+        let order = draw.number(1..=16);
+        let case = draw.number(0..=[1, 7, 47][dimension.clamp(1, 3) - 1]);
+        let lent = draw.lent_list(order.min(6).pow(dimension.min(3) as u32));
+        tables_are_ruled(&mut tally, [dimension, order, case], lent);
+    }
+    tally.reached("tables", &[0, 1, 2, 5, 7]);
+}
+
+/// Positions, alike on every axis, where reversing an index negates its position.
+fn positions(draw: &mut Draw, order: usize) -> Vec<i64> {
+    let mut positions = vec![0; order];
+    for index in 0..order / 2 {
+        positions[index] = draw.below(2_000) as i64 - 1_000;
+        positions[order - 1 - index] = -positions[index];
+    }
+    positions
+}
+
+/// On each axis: twice the entry, plus source position, less target position, in size.
+fn distances(vector: &[i32], positions: &[i64], [source, target]: [usize; 2]) -> Vec<i64> {
+    let (dimension, order) = (vector.len(), positions.len());
+    let sources = indices(dimension, order, source);
+    let targets = indices(dimension, order, target);
+    let distance = |axis: usize| {
+        2 * i64::from(vector[axis]) + positions[sources[axis]] - positions[targets[axis]]
+    };
+    (0..dimension).map(|axis| distance(axis).abs()).collect()
+}
+
+/// Demand 3 for one vector: between any two nodes, the table keeps the distance on every matching axis.
+fn keeps_distances(vector: &[i32], order: usize, positions: &[i64]) {
+    let dimension = vector.len();
+    let mut padded = [0; 3];
+    padded[..dimension].copy_from_slice(vector);
+    let entry = look_up(dimension, padded).expect("a vector");
+    let reference = reference_vector(dimension, entry.reference).expect("a reference");
+    let reference = &reference[..dimension];
+    assert_eq!(reference, rule::sorted_sizes(vector), "{vector:?}");
+    let mut table = vec![0; order.pow(dimension as u32)];
+    combined_permutation(dimension, order, entry.case, &mut table).expect("a case");
+    let axes = rule::axis_order(vector);
+    for source in 0..table.len() {
+        for target in 0..table.len() {
+            let turned = [table[source], table[target]].map(usize::from);
+            let far = distances(vector, positions, turned);
+            let matching: Vec<i64> = axes.iter().map(|&axis| far[axis]).collect();
+            let near = distances(reference, positions, [source, target]);
+            assert_eq!(
+                near, matching,
+                "{vector:?}, order {order}, nodes {source} and {target}"
+            );
+        }
+    }
+}
+
+#[test]
+fn turning_keeps_every_distance() {
+    let mut draw = Draw::new(2);
+    for (dimension, most) in [(1, 16), (2, 6), (3, 3)] {
+        let mut vectors = rule::vectors(dimension);
+        vectors.retain(|vector| vector.iter().any(|entry| entry.abs() >= 2));
+        for order in 1..=most {
+            let positions = positions(&mut draw, order);
+            for vector in &vectors {
+                keeps_distances(vector, order, &positions);
+            }
+        }
+    }
+}
+
+#[test]
+fn nodes_and_indices_agree() {
+    for place in 0..125 {
+        assert_eq!(node(5, &indices(3, 5, place)), place);
+    }
+    assert_eq!(indices(3, 5, 7), [0, 1, 2]);
+}

@@ -1,4 +1,5 @@
-//! Finds the static library: in the folder that `BBFMM_LIB` names, else in the project's target/staticlib.
+//! Finds the static library: in the folder that `BBFMM_LIB` names, else in the project's
+//! target/staticlib.
 
 use std::env;
 use std::path::{Path, PathBuf};
@@ -21,8 +22,8 @@ fn refuse_other_targets() {
         let given = env::var(name).unwrap_or_default();
         if given != wanted {
             refuse(&format!(
-                "libbbfmm.a is for 64-bit Linux on x86_64, and {name} is {given}. Build with --target \
-                 x86_64-unknown-linux-gnu; on an Arm machine bindings/rust/test shows how"
+                "libbbfmm.a is for 64-bit Linux on x86_64, and {name} is {given}. Build with \
+                 --target x86_64-unknown-linux-gnu; on an Arm machine bindings/rust/test shows how"
             ));
         }
     }
@@ -44,8 +45,8 @@ fn main() {
     println!("cargo::rerun-if-changed={}", archive.display());
     if !archive.is_file() {
         refuse(&format!(
-            "there is no {}. Write it by `rt staticlib bbfmm` in the project's folder, or let BBFMM_LIB name \
-             the folder that has libbbfmm.a",
+            "there is no {}. Write it by `rt staticlib bbfmm` in the project's folder, or let \
+             BBFMM_LIB name the folder that has libbbfmm.a",
             archive.display()
         ));
     }

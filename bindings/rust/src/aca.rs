@@ -3,8 +3,8 @@
 use crate::refusal::{Refusal, told};
 use crate::sys;
 
-/// Why a cross approximation ended. The first two do not say that the rest of the block is small: rows and columns that were
-/// never read are unknown to the run.
+/// Why a cross approximation ended. The first two do not say that the rest of the block is small:
+/// rows and columns that were never read are unknown to the run.
 #[derive(Clone, Copy, Debug, PartialEq, Eq, Hash)]
 #[repr(u8)]
 pub enum Stop {
@@ -37,7 +37,8 @@ impl Stop {
 /// What a cross approximation tells.
 #[derive(Clone, Copy, Debug, PartialEq)]
 pub struct Report {
-    /// How many terms there are: so many columns of U and of V are filled, and so many columns of the block were read.
+    /// How many terms there are: so many columns of U and of V are filled, and so many columns of
+    /// the block were read.
     pub rank: usize,
     /// Why the run ended.
     pub stop: Stop,
@@ -47,7 +48,8 @@ pub struct Report {
     pub estimate: f64,
 }
 
-/// The buffers of a cross approximation: of a block of m rows and n columns, with k for the lesser of the two.
+/// The buffers of a cross approximation: of a block of m rows and n columns, with k for the lesser
+/// of the two.
 #[derive(Debug)]
 pub struct Buffers<'a> {
     /// U, m by k. Beyond the rank its columns stay as lent.
@@ -64,11 +66,16 @@ pub struct Buffers<'a> {
     pub column: &'a mut [f64],
 }
 
-/// A block of at most 1,024 rows and 1,024 columns as U times the transpose of V, up to the tolerance epsilon.
+/// A block of at most 1,024 rows and 1,024 columns as U times the transpose of V, up to the
+/// tolerance epsilon.
 ///
 /// - `samples`: rows by columns, the block.
 ///
-/// Refuses with [`Refusal::NoCount`] and [`Refusal::WrongLength`].
+/// # Errors
+///
+/// [`Refusal::NoCount`] and [`Refusal::WrongLength`].
+///
+/// # Examples
 ///
 /// ```
 /// use bbfmm::{Buffers, Refusal, Report, Stop, aca_partial_pivoting};

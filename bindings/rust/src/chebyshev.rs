@@ -7,7 +7,11 @@ use crate::sys;
 ///
 /// - `nodes`: p entries. They become the nodes, rising.
 ///
-/// Refuses with [`Refusal::NoOrder`] and [`Refusal::WrongLength`].
+/// # Errors
+///
+/// [`Refusal::NoOrder`] and [`Refusal::WrongLength`].
+///
+/// # Examples
 ///
 /// ```
 /// use bbfmm::{Refusal, generate_chebyshev_nodes};
@@ -23,13 +27,18 @@ pub fn generate_chebyshev_nodes(order: usize, nodes: &mut [f64]) -> Result<(), R
     told(sys::generate_chebyshev_nodes(order, nodes))
 }
 
-/// The Chebyshev polynomials below the order at points, at most 4,096; and, if wanted, their derivatives.
+/// The Chebyshev polynomials below the order at points, at most 4,096; and, if wanted, their
+/// derivatives.
 ///
 /// - `points`: P entries, any floats.
 /// - `tn`: P by p. Column j becomes T_j at the points.
 /// - `dtn`: P by p, if there is one. Column j becomes the derivative of T_j at the points.
 ///
-/// Refuses with [`Refusal::NoOrder`], [`Refusal::NoCount`] and [`Refusal::WrongLength`].
+/// # Errors
+///
+/// [`Refusal::NoOrder`], [`Refusal::NoCount`] and [`Refusal::WrongLength`].
+///
+/// # Examples
 ///
 /// ```
 /// use bbfmm::{Refusal, evaluate_chebyshev_polynomials};

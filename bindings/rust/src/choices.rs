@@ -3,12 +3,17 @@
 use crate::refusal::{Refusal, told};
 use crate::sys;
 
-/// The first place of the largest size among the entries whose mask byte is 1, or 0 where none has a size above 0.
+/// The first place of the largest size among the entries whose mask byte is 1, or 0 where none has
+/// a size above 0.
 ///
 /// - `entries`: at most 1,024. A NaN is above nothing.
 /// - `mask`: as many bytes, each 0 or 1.
 ///
-/// Refuses with [`Refusal::NoCount`], [`Refusal::WrongLength`] and [`Refusal::NoMask`].
+/// # Errors
+///
+/// [`Refusal::NoCount`], [`Refusal::WrongLength`] and [`Refusal::NoMask`].
+///
+/// # Examples
 ///
 /// ```
 /// use bbfmm::{Refusal, argmax_masked};
@@ -24,12 +29,16 @@ pub fn argmax_masked(entries: &[f64], mask: &[u8]) -> Result<usize, Refusal> {
     Ok(place[0])
 }
 
-/// The first place from which on the squares of the singular values, summed from the end, come to less than all of them times
-/// epsilon squared; or how many there are.
+/// The first place from which on the squares of the singular values, summed from the end, come to
+/// less than all of them times epsilon squared; or how many there are.
 ///
 /// - `values`: 1 to 1,024 entries.
 ///
-/// Refuses with [`Refusal::NoCount`].
+/// # Errors
+///
+/// [`Refusal::NoCount`].
+///
+/// # Examples
 ///
 /// ```
 /// use bbfmm::{Refusal, calculate_singular_values_cutoff};

@@ -21,21 +21,28 @@ pub struct Cell {
 pub struct Gradients<'a> {
     /// P by D * N. Column g * N + n becomes the slope along axis g of what node n counts for.
     pub gradients: &'a mut [f64],
-    /// P by D * p, room to work in. Column a * p + n becomes the slope of the share of index n on axis a.
+    /// P by D * p, room to work in. Column a * p + n becomes the slope of the share of index n on
+    /// axis a.
     pub slopes: &'a mut [f64],
 }
 
-/// What each node of a cell counts for at points in it; and, if wanted, how that changes along each axis.
+/// What each node of a cell counts for at points in it; and, if wanted, how that changes along each
+/// axis.
 ///
 /// - `centre`: D entries, the middle of the cell.
 /// - `node_polynomials`: p by p. Column k has T_k at the nodes.
 /// - `points`: P by D, a row a point. They become reference coordinates, from -1 to 1 in the cell.
 /// - `values`: P by N. Column n becomes what node n counts for.
-/// - `factors`: P by D * p, room to work in. Column a * p + n becomes the share of index n on axis a.
+/// - `factors`: P by D * p, room to work in. Column a * p + n becomes the share of index n on axis
+///   a.
 /// - `gradients`: the buffers for gradients, if they are wanted.
 ///
-/// Refuses with [`Refusal::NoDimension`], [`Refusal::NoOrder`], [`Refusal::NoCount`], [`Refusal::WrongLength`],
+/// # Errors
+///
+/// [`Refusal::NoDimension`], [`Refusal::NoOrder`], [`Refusal::NoCount`], [`Refusal::WrongLength`],
 /// [`Refusal::NoCell`] and [`Refusal::NotFinite`].
+///
+/// # Examples
 ///
 /// ```
 /// use bbfmm::{Cell, Gradients, Refusal, get_approximation_coefficients};

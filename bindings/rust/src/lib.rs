@@ -1,23 +1,27 @@
-//! The operators of a black-box fast multipole method, from a library in which every call is proved to meet its contract:
-//! Chebyshev nodes and polynomials, transfer between a block and its children, turning a block, points, coefficients, cross
-//! approximation.
+//! The operators of a black-box fast multipole method, from a library in which every call is proved
+//! to meet its contract: Chebyshev nodes and polynomials, transfer between a block and its
+//! children, turning a block, points, coefficients, cross approximation.
 //!
-//! Each function here is one call of the static library `libbbfmm.a`. It copies nothing, allocates nothing and keeps nothing
-//! between calls, so any thread may call it. It ends for every input, never panics with the library that it was built for, and
-//! answers a [`Refusal`] where the input lies outside its limits; then every lent slice is as it came.
+//! Each function here is one call of the static library `libbbfmm.a`. It copies nothing, allocates
+//! nothing and keeps nothing between calls, so any thread may call it. It ends for every input,
+//! never panics with the library that it was built for, and answers a [`Refusal`] where the input
+//! lies outside its limits; then every lent slice is as it came.
 //!
 //! # Words
 //!
-//! D is the dimension, 1 to 3. p is the order, 1 to 16: how many nodes a block has along an axis. N is p to the power of D, all
-//! its nodes. They are numbered with the last axis varying fastest. P is the number of points. Matrices are column-major: with R
-//! rows, the entry of row i and column j stands at i + j * R. The lengths of slices are exact: any other is refused with
+//! D is the dimension, 1 to 3. p is the order, 1 to 16: how many nodes a block has along an axis. N
+//! is p to the power of D, all its nodes. They are numbered with the last axis varying fastest. P
+//! is the number of points. Matrices are column-major: with R rows, the entry of row i and column j
+//! stands at i + j * R. The lengths of slices are exact: any other is refused with
 //! [`Refusal::WrongLength`].
 //!
-//! Floats may be any, NaN and infinities included, where no refusal says otherwise. Each operation rounds once.
+//! Floats may be any, NaN and infinities included, where no refusal says otherwise. Each operation
+//! rounds once.
 //!
 //! # An example
 //!
-//! The block at the vector (0, -2) is a turn of a stored reference block. Its tables say how the nodes are renumbered.
+//! The block at the vector (0, -2) is a turn of a stored reference block. Its tables say how the
+//! nodes are renumbered.
 //!
 //! ```
 //! # fn main() -> Result<(), bbfmm::Refusal> {

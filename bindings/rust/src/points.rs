@@ -8,7 +8,12 @@ use crate::sys;
 /// - `nodes`: p entries, the nodes along one axis of a block from -1 to 1.
 /// - `points`: N by D. Row n becomes the place of node n.
 ///
-/// Refuses with [`Refusal::NoDimension`], [`Refusal::NoOrder`], [`Refusal::WrongLength`] and [`Refusal::NoCell`].
+/// # Errors
+///
+/// [`Refusal::NoDimension`], [`Refusal::NoOrder`], [`Refusal::WrongLength`] and
+/// [`Refusal::NoCell`].
+///
+/// # Examples
 ///
 /// ```
 /// use bbfmm::{Refusal, generate_chebyshev_target_points};
@@ -36,13 +41,18 @@ pub fn generate_chebyshev_target_points(
     ))
 }
 
-/// Where the nodes of the block lie that is at the reference vector with this number. It is below 2, 7, 16 for dimension 1, 2, 3.
+/// Where the nodes of the block lie that is at the reference vector with this number. It is below
+/// 2, 7, 16 for dimension 1, 2, 3.
 ///
 /// - `nodes`: p entries, the nodes along one axis of a block from -1 to 1.
 /// - `points`: N by D. Row n becomes the place of node n.
 ///
-/// Refuses with [`Refusal::NoDimension`], [`Refusal::NoOrder`], [`Refusal::NoCase`], [`Refusal::WrongLength`] and
-/// [`Refusal::NoCell`].
+/// # Errors
+///
+/// [`Refusal::NoDimension`], [`Refusal::NoOrder`], [`Refusal::NoCase`], [`Refusal::WrongLength`]
+/// and [`Refusal::NoCell`].
+///
+/// # Examples
 ///
 /// ```
 /// use bbfmm::{Refusal, generate_chebyshev_source_points};

@@ -3,8 +3,10 @@
 use core::error::Error;
 use core::fmt;
 
-/// Why a call did nothing: what it was given lies outside its limits. Every lent buffer is as it came. With several faults the
-/// one with the lowest number is told.
+/// Why a call did nothing: what it was given lies outside its limits. Every lent buffer is as it
+/// came. With several faults the one with the lowest number is told.
+///
+/// # Examples
 ///
 /// ```
 /// use bbfmm::{Refusal, look_up};
@@ -21,12 +23,13 @@ pub enum Refusal {
     NoDimension = 1,
     /// The order is not 1 to 16.
     NoOrder = 2,
-    /// There are more than 4,096 points, more than 1,024 entries, singular values, rows or columns, or no singular values.
+    /// There are more than 4,096 points, more than 1,024 entries, singular values, rows or columns,
+    /// or no singular values.
     NoCount = 3,
     /// One of a vector's first entries, as many as the dimension, is outside -3 to 3.
     NoEntry = 4,
-    /// The case is not below 2, 8, 48, the reference number not below 2, 7, 16, or the child not below 2, 4, 8, for dimension
-    /// 1, 2, 3.
+    /// The case is not below 2, 8, 48, the reference number not below 2, 7, 16, or the child not
+    /// below 2, 4, 8, for dimension 1, 2, 3.
     NoCase = 5,
     /// An entry of a vector past the dimension is not 0.
     NotZero = 6,

@@ -1,13 +1,16 @@
-//! The calls of libbbfmm.a as include/bbfmm.h declares them, each behind a safe function of slices. All `unsafe` stands here.
+//! The calls of libbbfmm.a as include/bbfmm.h declares them, each behind a safe function of slices.
+//! All `unsafe` stands here.
 //!
 //! What the header asks of a caller, and why each call below meets it:
 //!
-//! - A slice crosses as two arguments, the pointer to its first entry and its length. That of a Rust slice is never null, also
-//!   where it is empty, is aligned, and has so many entries behind it, which may be read, and written through `&mut`.
-//! - No two buffers overlap of which one is written: the borrow rules shut that out. Two that are only read may be one and the
-//!   same, which changes nothing, since no call writes through them.
+//! - A slice crosses as two arguments, the pointer to its first entry and its length. That of a
+//!   Rust slice is never null, also where it is empty, is aligned, and has so many entries behind
+//!   it, which may be read, and written through `&mut`.
+//! - No two buffers overlap of which one is written: the borrow rules shut that out. Two that are
+//!   only read may be one and the same, which changes nothing, since no call writes through them.
 //! - A `bool` is true or false.
-//! - The library keeps no pointer and no state, so a borrow ends with its call, and calls on several threads do not meet.
+//! - The library keeps no pointer and no state, so a borrow ends with its call, and calls on
+//!   several threads do not meet.
 //! - Any values of the arguments are allowed: what lies outside the limits is refused.
 #![allow(unsafe_code)]
 
@@ -214,8 +217,8 @@ pub(crate) fn evaluate_chebyshev_polynomials(
     tn: &mut [f64],
     dtn: &mut [f64],
 ) -> u8 {
-    // SAFETY: three slices by their pointers and lengths. `points` is only read; `tn` and `dtn` are borrowed mutably, so they
-    // overlap nothing. The bool is Rust's.
+    // SAFETY: three slices by their pointers and lengths. `points` is only read; `tn` and `dtn` are
+    // borrowed mutably, so they overlap nothing. The bool is Rust's.
     unsafe {
         bbfmm_evaluate_chebyshev_polynomials(
             order,
@@ -237,8 +240,8 @@ pub(crate) fn get_m2m_transfer_operators(
     node_polynomials: &[f64],
     operators: &mut [f64],
 ) -> u8 {
-    // SAFETY: three slices by their pointers and lengths. The first two are only read and may be the same; `operators` is
-    // borrowed mutably, so it overlaps neither.
+    // SAFETY: three slices by their pointers and lengths. The first two are only read and may be
+    // the same; `operators` is borrowed mutably, so it overlaps neither.
     unsafe {
         bbfmm_get_m2m_transfer_operators(
             order,
@@ -263,8 +266,8 @@ pub(crate) fn apply_cheb_tensor_transfer(
     first: &mut [f64],
     second: &mut [f64],
 ) -> u8 {
-    // SAFETY: four slices by their pointers and lengths. The first two are only read and may be the same; `first` and `second`
-    // are borrowed mutably, so they overlap nothing. The bool is Rust's.
+    // SAFETY: four slices by their pointers and lengths. The first two are only read and may be the
+    // same; `first` and `second` are borrowed mutably, so they overlap nothing. The bool is Rust's.
     unsafe {
         bbfmm_apply_cheb_tensor_transfer(
             dimension,
@@ -290,7 +293,8 @@ pub(crate) fn generate_chebyshev_target_points(
     nodes: &[f64],
     points: &mut [f64],
 ) -> u8 {
-    // SAFETY: two slices by their pointers and lengths. `nodes` is only read; `points` is borrowed mutably, so they do not overlap.
+    // SAFETY: two slices by their pointers and lengths. `nodes` is only read; `points` is borrowed
+    // mutably, so they do not overlap.
     unsafe {
         bbfmm_generate_chebyshev_target_points(
             dimension,
@@ -312,7 +316,8 @@ pub(crate) fn generate_chebyshev_source_points(
     nodes: &[f64],
     points: &mut [f64],
 ) -> u8 {
-    // SAFETY: two slices by their pointers and lengths. `nodes` is only read; `points` is borrowed mutably, so they do not overlap.
+    // SAFETY: two slices by their pointers and lengths. `nodes` is only read; `points` is borrowed
+    // mutably, so they do not overlap.
     unsafe {
         bbfmm_generate_chebyshev_source_points(
             dimension,
@@ -339,8 +344,8 @@ pub(crate) fn get_approximation_coefficients(
     factors: &mut [f64],
     slopes: &mut [f64],
 ) -> u8 {
-    // SAFETY: seven slices by their pointers and lengths. The first two are only read and may be the same; the five others are
-    // borrowed mutably, so they overlap nothing. The bool is Rust's.
+    // SAFETY: seven slices by their pointers and lengths. The first two are only read and may be
+    // the same; the five others are borrowed mutably, so they overlap nothing. The bool is Rust's.
     unsafe {
         bbfmm_get_approximation_coefficients(
             cell.dimension,
@@ -367,8 +372,8 @@ pub(crate) fn get_approximation_coefficients(
 }
 
 pub(crate) fn argmax_masked(entries: &[f64], mask: &[u8], place: &mut [usize; 1]) -> u8 {
-    // SAFETY: three slices by their pointers and lengths. The first two are only read; `place` is borrowed mutably, so it
-    // overlaps neither.
+    // SAFETY: three slices by their pointers and lengths. The first two are only read; `place` is
+    // borrowed mutably, so it overlaps neither.
     unsafe {
         bbfmm_argmax_masked(
             entries.as_ptr(),
@@ -386,7 +391,8 @@ pub(crate) fn calculate_singular_values_cutoff(
     epsilon: f64,
     place: &mut [usize; 1],
 ) -> u8 {
-    // SAFETY: two slices by their pointers and lengths. `values` is only read; `place` is borrowed mutably, so they do not overlap.
+    // SAFETY: two slices by their pointers and lengths. `values` is only read; `place` is borrowed
+    // mutably, so they do not overlap.
     unsafe {
         bbfmm_calculate_singular_values_cutoff(
             values.as_ptr(),
@@ -407,8 +413,8 @@ pub(crate) fn aca_partial_pivoting(
     counts: &mut [usize; 3],
     estimate: &mut [f64; 1],
 ) -> u8 {
-    // SAFETY: nine slices by their pointers and lengths. `samples` is only read; the six of `buffers`, each borrowed mutably,
-    // and the two arrays overlap nothing.
+    // SAFETY: nine slices by their pointers and lengths. `samples` is only read; the six of
+    // `buffers`, each borrowed mutably, and the two arrays overlap nothing.
     unsafe {
         bbfmm_aca_partial_pivoting(
             rows,

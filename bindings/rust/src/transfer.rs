@@ -7,14 +7,20 @@ use crate::sys;
 ///
 /// - `nodes`: p entries.
 /// - `node_polynomials`: p by p. Column k has T_k at the nodes.
-/// - `operators`: p by 2p. The first p columns become the operator of the lower child, the others that of the upper.
+/// - `operators`: p by 2p. The first p columns become the operator of the lower child, the others
+///   that of the upper.
 ///
-/// Refuses with [`Refusal::NoOrder`] and [`Refusal::WrongLength`].
+/// # Errors
+///
+/// [`Refusal::NoOrder`] and [`Refusal::WrongLength`].
+///
+/// # Examples
 ///
 /// ```
 /// use bbfmm::{Refusal, get_m2m_transfer_operators};
 ///
-/// // Two nodes at -0.5 and 0.5, where T_0 is 1 and T_1 is the node. The children's nodes are -0.75, -0.25, 0.25 and 0.75.
+/// // Two nodes at -0.5 and 0.5, where T_0 is 1 and T_1 is the node. The children's nodes are
+/// // -0.75, -0.25, 0.25 and 0.75.
 /// let nodes = [-0.5, 0.5];
 /// let node_polynomials = [1.0, 1.0, -0.5, 0.5];
 /// let mut operators = [0.0; 8];
@@ -40,8 +46,9 @@ pub fn get_m2m_transfer_operators(
     ))
 }
 
-/// Moves the values at the nodes of a child to its block, or, with `transpose`, from the block to the child. The child is below
-/// 2, 4, 8 for dimension 1, 2, 3; it is the upper one on axis a where bit a of it is 1.
+/// Moves the values at the nodes of a child to its block, or, with `transpose`, from the block to
+/// the child. The child is below 2, 4, 8 for dimension 1, 2, 3; it is the upper one on axis a where
+/// bit a of it is 1.
 ///
 /// - `input`: N entries.
 /// - `operators`: p by 2p, as from [`get_m2m_transfer_operators`].
@@ -49,24 +56,30 @@ pub fn get_m2m_transfer_operators(
 ///
 /// Answers the buffer that has the result: `first` for dimension 2, and `second` otherwise.
 ///
-/// Refuses with [`Refusal::NoDimension`], [`Refusal::NoOrder`], [`Refusal::NoCase`] and [`Refusal::WrongLength`].
+/// # Errors
+///
+/// [`Refusal::NoDimension`], [`Refusal::NoOrder`], [`Refusal::NoCase`] and
+/// [`Refusal::WrongLength`].
+///
+/// # Examples
 ///
 /// ```
 /// use bbfmm::{Refusal, apply_cheb_tensor_transfer};
 ///
 /// // The columns (1, 2) and (3, 4) for the lower child, and none for the upper.
 /// let operators = [1.0, 2.0, 3.0, 4.0, 0.0, 0.0, 0.0, 0.0];
-/// let (mut first, mut second) = ([0.0; 2], [0.0; 2]);
 /// let input = [1.0, 10.0];
-/// let up = apply_cheb_tensor_transfer(1, 2, 0, false, &input, &operators, &mut first, &mut second)?;
+/// let (mut first, mut second) = ([0.0; 2], [0.0; 2]);
+/// let (a, b) = (&mut first, &mut second);
+/// let up = apply_cheb_tensor_transfer(1, 2, 0, false, &input, &operators, a, b)?;
 /// assert_eq!(up, [31.0, 42.0]);
-/// let down = apply_cheb_tensor_transfer(1, 2, 0, true, &input, &operators, &mut first, &mut second)?;
+/// let down = apply_cheb_tensor_transfer(1, 2, 0, true, &input, &operators, a, b)?;
 /// assert_eq!(down, [21.0, 43.0]);
-/// assert_eq!(first, input);
 /// assert_eq!(
-///     apply_cheb_tensor_transfer(1, 2, 2, true, &input, &operators, &mut first, &mut second),
+///     apply_cheb_tensor_transfer(1, 2, 2, true, &input, &operators, a, b),
 ///     Err(Refusal::NoCase)
 /// );
+/// assert_eq!(first, input);
 /// # Ok::<(), Refusal>(())
 /// ```
 #[expect(clippy::too_many_arguments, reason = "they are those of the call")]

@@ -18,7 +18,11 @@ pub struct Entry {
 
 /// Looks up the vector between two blocks. Its entries past the dimension must be 0.
 ///
-/// Refuses with [`Refusal::NoDimension`], [`Refusal::NoEntry`] and [`Refusal::NotZero`].
+/// # Errors
+///
+/// [`Refusal::NoDimension`], [`Refusal::NoEntry`] and [`Refusal::NotZero`].
+///
+/// # Examples
 ///
 /// ```
 /// use bbfmm::{Entry, Refusal, look_up};
@@ -41,9 +45,14 @@ pub fn look_up(dimension: usize, vector: [i32; 3]) -> Result<Entry, Refusal> {
     })
 }
 
-/// The reference vector with this number, which is below 2, 7, 16 for dimension 1, 2, 3. Entries past the dimension are 0.
+/// The reference vector with this number, which is below 2, 7, 16 for dimension 1, 2, 3. Entries
+/// past the dimension are 0.
 ///
-/// Refuses with [`Refusal::NoDimension`] and [`Refusal::NoCase`].
+/// # Errors
+///
+/// [`Refusal::NoDimension`] and [`Refusal::NoCase`].
+///
+/// # Examples
 ///
 /// ```
 /// use bbfmm::{Refusal, reference_vector};
@@ -60,9 +69,15 @@ pub fn reference_vector(dimension: usize, number: usize) -> Result<[i32; 3], Ref
 
 /// The table of a case, which is below 2, 8, 48 for dimension 1, 2, 3.
 ///
-/// - `table`: N entries. Entry n becomes the node of the turned block that node n of the reference block goes to.
+/// - `table`: N entries. Entry n becomes the node of the turned block that node n of the reference
+///   block goes to.
 ///
-/// Refuses with [`Refusal::NoDimension`], [`Refusal::NoOrder`], [`Refusal::NoCase`] and [`Refusal::WrongLength`].
+/// # Errors
+///
+/// [`Refusal::NoDimension`], [`Refusal::NoOrder`], [`Refusal::NoCase`] and
+/// [`Refusal::WrongLength`].
+///
+/// # Examples
 ///
 /// ```
 /// use bbfmm::{Refusal, combined_permutation};
@@ -84,9 +99,15 @@ pub fn combined_permutation(
 
 /// The inverse of the table that [`combined_permutation`] gives for the same case.
 ///
-/// - `table`: N entries. Entry n becomes the node of the reference block that goes to node n of the turned block.
+/// - `table`: N entries. Entry n becomes the node of the reference block that goes to node n of the
+///   turned block.
 ///
-/// Refuses with [`Refusal::NoDimension`], [`Refusal::NoOrder`], [`Refusal::NoCase`] and [`Refusal::WrongLength`].
+/// # Errors
+///
+/// [`Refusal::NoDimension`], [`Refusal::NoOrder`], [`Refusal::NoCase`] and
+/// [`Refusal::WrongLength`].
+///
+/// # Examples
 ///
 /// ```
 /// use bbfmm::{Refusal, inverse_permutation};

@@ -7,7 +7,8 @@ use crate::held::{Tally, bits};
 use crate::rule;
 use crate::rule::chebyshev::{cosines, evaluate};
 
-/// What the Rust that was ported answers, written down: the line of an order begins with 'nodes' and its number.
+/// What the Rust that was ported answers, written down: the line of an order begins with 'nodes'
+/// and its number.
 const WRITTEN: &str = include_str!("../../../../crates/replay_floats/stdout");
 
 /// The nodes of an order as the Rust's bits.
@@ -51,7 +52,7 @@ fn nodes_are_refused() {
 
 /// Few points, or as many as may be, or one more.
 fn count(draw: &mut Draw) -> usize {
-    match draw.below(40) {
+    match draw.below(120) {
         0 => 4_096,
         1 => 4_097,
         _ => draw.below(30),

@@ -170,7 +170,7 @@ fn blocks_at_the_limits_are_ruled() {
 
 #[test]
 fn the_largest_block_is_ruled() {
-    let mut draw = Draw::new(18);
+    let mut draw = Draw::fitting(18);
     let (mut tally, mut stops) = (Tally::default(), Stops::default());
     let samples = smooth(1_024, 1_024);
     let block = Block {

@@ -1,4 +1,5 @@
-//! Draws cases from a seed, so that every run asks the same: numbers about their limits, and floats of many sorts.
+//! Draws cases from a seed, so that every run asks the same: numbers about their limits, and floats
+//! of many sorts.
 
 use std::ops::RangeInclusive;
 
@@ -28,11 +29,25 @@ const ONE_UNFIT: usize = 40;
 /// The generator splitmix64: a counter whose values are mixed.
 pub struct Draw {
     state: u64,
+    /// Whether all that is drawn lies in the limits, so that no call refuses it.
+    fits: bool,
 }
 
 impl Draw {
+    /// Draws cases of which most fit, and some are refused.
     pub fn new(seed: u64) -> Self {
-        Self { state: seed }
+        Self {
+            state: seed,
+            fits: false,
+        }
+    }
+
+    /// Draws cases that all fit.
+    pub fn fitting(seed: u64) -> Self {
+        Self {
+            state: seed,
+            fits: true,
+        }
     }
 
     fn next(&mut self) -> u64 {
@@ -51,6 +66,11 @@ impl Draw {
         self.below(many) == 0
     }
 
+    /// Whether to draw something that is refused, one in so many times.
+    fn is_fault(&mut self, many: usize) -> bool {
+        !self.fits && self.one_in(many)
+    }
+
     pub fn one_of<T: Copy>(&mut self, list: &[T]) -> T {
         list[self.below(list.len())]
     }
@@ -58,7 +78,7 @@ impl Draw {
     /// A number in its limits, and now and then one outside them.
     pub fn number(&mut self, limits: RangeInclusive<usize>) -> usize {
         let (least, most) = (*limits.start(), *limits.end());
-        if self.one_in(ONE_OUTSIDE) {
+        if self.is_fault(ONE_OUTSIDE) {
             return self.one_of(&[
                 least.wrapping_sub(1),
                 most + 1,
@@ -70,17 +90,24 @@ impl Draw {
         least + self.below(most - least + 1)
     }
 
-    /// How long a buffer is, and now and then another length.
-    pub fn length(&mut self, right: usize) -> usize {
-        match self.below(3 * ONE_UNFIT) {
-            0 => 0,
-            1 => right.saturating_sub(1),
-            2 => right + 1,
-            _ => right,
+    /// An order up to this one, and now and then any, in its limits or not.
+    pub fn order(&mut self, most: usize) -> usize {
+        match self.below(10) {
+            0 => self.number(1..=16),
+            _ => 1 + self.below(most),
         }
     }
 
-    /// Whole numbers from -3 to 3, floats from -1 to 1, floats of many sizes, special floats, or any bits.
+    /// How long a buffer is, and now and then another length.
+    pub fn length(&mut self, right: usize) -> usize {
+        if self.is_fault(ONE_UNFIT) {
+            return self.one_of(&[0, right.saturating_sub(1), right + 1]);
+        }
+        right
+    }
+
+    /// Whole numbers from -3 to 3, floats from -1 to 1, floats of many sizes, special floats, or
+    /// any bits.
     fn float(&mut self, sort: usize) -> f64 {
         let bits = self.next();
         let unit = (bits >> 11) as f64 / (1u64 << 52) as f64 - 1.0;
@@ -107,7 +134,7 @@ impl Draw {
 
     /// Finite floats, and now and then some that are not.
     pub fn coordinates(&mut self, count: usize) -> Vec<f64> {
-        let any = self.one_in(ONE_UNFIT);
+        let any = self.is_fault(ONE_OUTSIDE);
         let finite = |float: f64| if any || float.is_finite() { float } else { 1.5 };
         self.floats(count).into_iter().map(finite).collect()
     }
@@ -124,14 +151,16 @@ impl Draw {
         (0..length).map(|_| self.next() as u16).collect()
     }
 
-    /// A cell's length: an end of the limits, one step to either side of it, any between, or any float.
+    /// A cell's length: an end of the limits, any between, and now and then any float or one just
+    /// outside.
     pub fn cell_length(&mut self) -> f64 {
-        let ends = [2f64.powi(-20), 2f64.powi(30)];
-        let end = self.one_of(&ends);
-        match self.below(12) {
-            0 => end,
-            1 => self.one_of(&[end.next_up(), end.next_down()]),
-            2 => self.floats(1)[0],
+        let (least, most) = (2f64.powi(-20), 2f64.powi(30));
+        if self.is_fault(ONE_OUTSIDE) {
+            let any = self.floats(1)[0];
+            return self.one_of(&[least.next_down(), most.next_up(), any]);
+        }
+        match self.below(8) {
+            0 => self.one_of(&[least, least.next_up(), most.next_down(), most]),
             _ => (1.0 + self.float(1).abs()) * 2f64.powi(self.below(50) as i32 - 20),
         }
     }

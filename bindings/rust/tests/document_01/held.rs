@@ -23,7 +23,8 @@ pub struct Tally {
 }
 
 impl Tally {
-    /// Counts an answer, and holds it to the number of the rule. Gives what the rule says, where the call was done.
+    /// Counts an answer, and holds it to the number of the rule. Gives what the rule says, where
+    /// the call was done.
     pub fn number<A, R>(
         &mut self,
         case: &dyn Debug,
@@ -37,7 +38,8 @@ impl Tally {
         ruled.ok()
     }
 
-    /// The same for a call that writes floats: every buffer is as the rule says, or after a refusal as it came.
+    /// The same for a call that writes floats: every buffer is as the rule says, or after a refusal
+    /// as it came.
     pub fn floats<A, const B: usize>(
         &mut self,
         case: &dyn Debug,

@@ -1,6 +1,7 @@
-//! Holds every call to the rules of document 01, which `rule` writes anew: plain, slow and obvious. Answers and lent buffers are
-//! compared bit for bit, where any NaN equals any NaN; after a refusal every lent buffer must have the bits that it came with.
-//! Cases are drawn from fixed seeds, or are all that there are.
+//! Holds every call to the rules of document 01, which `rule` writes anew: plain, slow and obvious.
+//! Answers and lent buffers are compared bit for bit, where any NaN equals any NaN; after a refusal
+//! every lent buffer must have the bits that it came with. Cases are drawn from fixed seeds, or are
+//! all that there are.
 
 mod chebyshev;
 mod choices;

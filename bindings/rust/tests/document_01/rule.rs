@@ -1,4 +1,5 @@
-//! The rules of document 01, one file for each of its parts. A rule answers what the call must leave, or a refusal's number.
+//! The rules of document 01, one file for each of its parts. A rule answers what the call must
+//! leave, or a refusal's number.
 
 pub mod chebyshev;
 pub mod choices;
@@ -35,7 +36,8 @@ pub fn bad_cell(length: f64) -> (u8, bool) {
     (8, !(2f64.powi(-20)..=2f64.powi(30)).contains(&length))
 }
 
-/// N, the order to the power of the dimension. A dimension outside the limits is refused before any length, and so has any N.
+/// N, the order to the power of the dimension. A dimension outside the limits is refused before any
+/// length, and so has any N.
 pub fn nodes_of_block(dimension: usize, order: usize) -> usize {
     (0..dimension.min(3)).fold(1, |all, _| all.saturating_mul(order))
 }

@@ -2,7 +2,8 @@
 
 use super::{bad_length, bad_order, refusal};
 
-/// cos(pi*(i+0.5)/p) for i from p-1 down to 0. The cosine of another platform may round otherwise in the last places.
+/// cos(pi*(i+0.5)/p) for i from p-1 down to 0. The cosine of another platform may round otherwise
+/// in the last places.
 pub fn cosines(order: usize) -> Vec<f64> {
     let angle = |i: usize| std::f64::consts::PI * (i as f64 + 0.5) / order as f64;
     (0..order).rev().map(|i| angle(i).cos()).collect()

@@ -24,7 +24,8 @@ pub fn argmax_masked(entries: &[f64], mask: &[u8]) -> Result<usize, u8> {
     Ok(argmax(entries, |at| mask[at] == 1))
 }
 
-/// The first place whose sum of squares, from the end, is strictly below (total*epsilon)*epsilon, else the length.
+/// The first place whose sum of squares, from the end, is strictly below (total*epsilon)*epsilon,
+/// else the length.
 pub fn cutoff(values: &[f64], epsilon: f64) -> Result<usize, u8> {
     refusal(&[(3, !(1..=1024).contains(&values.len()))])?;
     let sum = |place: usize| values[place..].iter().rev().fold(0.0, |sum, x| sum + x * x);

@@ -3,7 +3,8 @@
 use super::chebyshev::polynomials;
 use super::{bad_dimension, bad_length, bad_order, dot, nodes_of_block, refusal};
 
-/// Entry: (sum of T_k(node)*T_k(child)) * (2/p), less 1/p. Child nodes are (x-1)*0.5, then (x+1)*0.5.
+/// Entry: (sum of T_k(node)*T_k(child)) * (2/p), less 1/p. Child nodes are (x-1)*0.5, then
+/// (x+1)*0.5.
 pub fn operators(
     order: usize,
     nodes: &[f64],
@@ -21,16 +22,18 @@ pub fn operators(
     let upper = nodes.iter().map(|x| (x + 1.0) * 0.5);
     let mut entries = vec![];
     for child in lower.chain(upper) {
+        let at_child = polynomials(order, child);
         for node in 0..order {
             let at_node = (0..order).map(|k| node_polynomials[node + k * order]);
-            let sum = dot(at_node, polynomials(order, child).into_iter());
+            let sum = dot(at_node, at_child.iter().copied());
             entries.push(sum * (2.0 / p) - 1.0 / p);
         }
     }
     Ok([entries])
 }
 
-/// One pass: output place c + (N/p)*r is the sum over s of data at s + p*c, times operator (r,s), or (s,r) with `transpose`.
+/// One pass: output place c + (N/p)*r is the sum over s of data at s + p*c, times operator (r,s),
+/// or (s,r) with `transpose`.
 fn pass(order: usize, operator: &[f64], transpose: bool, data: &[f64]) -> Vec<f64> {
     let many = data.len() / order;
     let mut output = vec![0.0; data.len()];
@@ -59,44 +62,44 @@ pub struct Move {
     pub transpose: bool,
 }
 
-/// Both buffers: the result is in the first for dimension 2, else in the second; the other has what the last pass read.
+fn check(
+    moved: Move,
+    input: &[f64],
+    operators: &[f64],
+    [first, second]: &[Vec<f64>; 2],
+) -> Result<(), u8> {
+    let nodes = nodes_of_block(moved.dimension, moved.order);
+    refusal(&[
+        bad_length(first, &[nodes]),
+        bad_length(second, &[nodes]),
+        bad_length(input, &[nodes]),
+        bad_length(operators, &[moved.order, moved.order, 2]),
+        (5, moved.child >= 1 << moved.dimension.min(3)),
+        bad_order(moved.order),
+        bad_dimension(moved.dimension),
+    ])
+}
+
+/// Both buffers: the result is in the first for dimension 2, else in the second; the other has what
+/// the last pass read.
 pub fn transfer(
     moved: Move,
     input: &[f64],
     operators: &[f64],
     lent: &[Vec<f64>; 2],
 ) -> Result<[Vec<f64>; 2], u8> {
-    let Move {
-        dimension,
-        order,
-        child,
-        transpose,
-    } = moved;
-    let nodes = nodes_of_block(dimension, order);
-    refusal(&[
-        bad_length(&lent[0], &[nodes]),
-        bad_length(&lent[1], &[nodes]),
-        bad_length(input, &[nodes]),
-        bad_length(operators, &[order, order, 2]),
-        (5, child >= 1 << dimension.min(3)),
-        bad_order(order),
-        bad_dimension(dimension),
-    ])?;
-    let (lower, upper) = operators.split_at(order * order);
+    check(moved, input, operators, lent)?;
+    let (lower, upper) = operators.split_at(moved.order.pow(2));
     let mut read = vec![];
     let mut data = input.to_vec();
-    for axis in (0..dimension).rev() {
-        let operator = if (child >> axis) & 1 == 0 {
-            lower
-        } else {
-            upper
-        };
+    for axis in (0..moved.dimension).rev() {
+        let is_upper = (moved.child >> axis) & 1 == 1;
+        let operator = if is_upper { upper } else { lower };
         read = data;
-        data = pass(order, operator, transpose, &read);
+        data = pass(moved.order, operator, moved.transpose, &read);
     }
-    Ok(if dimension == 2 {
-        [data, read]
-    } else {
-        [read, data]
+    Ok(match moved.dimension {
+        2 => [data, read],
+        _ => [read, data],
     })
 }

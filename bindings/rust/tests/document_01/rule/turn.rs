@@ -107,8 +107,9 @@ fn parts(dimension: usize, case: usize) -> (Vec<usize>, usize) {
     (orders[case % orders.len()].clone(), case / orders.len())
 }
 
-/// The node of the original block that a node of the reference block goes to: axis m of the reference goes to the m-th axis of
-/// the order, and there the index is reversed where the sign is negative.
+/// The node of the original block that a node of the reference block goes to: axis m of the
+/// reference goes to the m-th axis of the order, and there the index is reversed where the sign is
+/// negative.
 fn turned(order: usize, axes: &[usize], signs: usize, from: usize) -> usize {
     let dimension = axes.len();
     let mut to = vec![0; dimension];

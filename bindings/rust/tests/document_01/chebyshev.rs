@@ -22,7 +22,7 @@ fn written(order: usize) -> Vec<u64> {
 }
 
 #[test]
-fn nodes_are_the_ports() {
+fn nodes_are_those_of_the_rust() {
     for order in 1..=16 {
         let mut nodes = vec![f64::NAN; order];
         generate_chebyshev_nodes(order, &mut nodes).expect("an order");

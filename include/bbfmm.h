@@ -10,8 +10,8 @@
  *
  * BUFFERS. A buffer is two arguments: a pointer to its first entry, and how many entries it has. A const buffer is only read. The
  * lengths below are exact: any other is refused with BBFMM_WRONG_LENGTH. What no call can test, the caller sees to: a pointer is
- * not null, even where the length is 0, is aligned for its type, and has so many entries behind it; no two buffers of a call
- * overlap; a bool is true or false.
+ * not null, even where the length is 0, is aligned for its type, and has so many entries behind it; no buffer that is written
+ * overlaps another of the call; a bool is true or false.
  *
  * MATRICES are column-major: with R rows, the entry of row i and column j stands at i + j * R.
  *

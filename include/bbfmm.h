@@ -204,7 +204,8 @@ uint8_t bbfmm_calculate_singular_values_cutoff(
  * samples: m by n, the block.
  * u: m by k, and v: n by k. A column of each becomes a term; as many as the rank says, and the others stay as lent.
  * row_list, column_list: k entries each. They become the rows that were read in order, and the columns; unused places stay as lent.
- * row: n entries, and column: m entries, room to work in. They become the row and the column that were last worked on.
+ * row: n entries, and column: m entries, room to work in. They become the row and the column that were last worked on, the row
+ *     scaled to 1 at its pivot if it had one; what was not worked on stays as lent.
  * counts: 3 entries. They become the rank, why the run ended, a BBFMM_STOP, and how many rows were read. As many columns were read
  *     as the rank says.
  * estimate: 1 entry. It becomes the estimate of the approximation's squared norm.

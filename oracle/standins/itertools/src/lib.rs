@@ -3,7 +3,7 @@
 #![forbid(unsafe_code)]
 
 use std::collections::HashSet;
-use std::hash::Hash;
+use std::hash::{BuildHasherDefault, DefaultHasher, Hash};
 use std::vec::IntoIter;
 
 /// The adaptors the Rust text calls; both gather their answer at once.
@@ -24,7 +24,8 @@ pub trait Itertools: Iterator + Sized {
     where
         Self::Item: Clone + Eq + Hash,
     {
-        let mut seen = HashSet::new();
+        // Hashed alike in every run, so that a count of instructions is too.
+        let mut seen = HashSet::<_, BuildHasherDefault<DefaultHasher>>::default();
         let kept: Vec<Self::Item> = self.filter(|item| seen.insert(item.clone())).collect();
         kept.into_iter()
     }

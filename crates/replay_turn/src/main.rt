@@ -1,48 +1,40 @@
 // Replays calls of the crate turn: reads records of four bytes, a kind, a dimension, an order and a
 // number, from standard input, and writes a line for what the call of each record answers.
-mod line;
 mod table;
 
 use libc::STDIN_FILENO;
-use libc::STDOUT_FILENO;
-use line::ended;
-use line::put;
-use line::put_byte;
-use line::put_number;
-use line::put_signed;
 use table::nodes;
 use table::put_table;
+use text::print;
+use text::put;
+use text::put_byte;
+use text::put_number;
+use text::put_refusal;
+use text::put_signed;
+use text::put_unknown;
 use turn::Reference;
-
-fn put_refusal(line: &mut [u8; 1024], to: usize, refusal: u8) -> usize {
-    let after_word = put(line, to, b" refused");
-    put_number(line, after_word, refusal as u64)
-}
+use turn::Vector;
 
 // Kind 0: a reference vector.
-fn replay_reference(line: &mut [u8; 1024], dimension: u8, number: u8) -> usize {
+fn replay_reference(line: &mut [u8], dimension: u8, number: u8) -> usize {
     let after_word = put(line, 0, b"reference");
     let after_dimension = put_number(line, after_word, dimension as u64);
     let after_number = put_number(line, after_dimension, number as u64);
     let to = put_byte(line, after_number, b':');
     match turn::reference_vector(dimension as usize, number as usize) {
         Reference::Refused(refusal) => put_refusal(line, to, refusal),
-        Reference::Found(vector) => {
-            let after_x = put_signed(line, to, vector.0);
-            let after_y = put_signed(line, after_x, vector.1);
-            put_signed(line, after_y, vector.2)
-        }
+        Reference::Found(vector) => put_vector(line, to, vector),
     }
 }
 
+fn put_vector(line: &mut [u8], to: usize, vector: Vector) -> usize {
+    let after_x = put_signed(line, to, vector.0);
+    let after_y = put_signed(line, after_x, vector.1);
+    put_signed(line, after_y, vector.2)
+}
+
 // Kinds 1 and 2: the table of a case, or its inverse.
-fn replay_table(
-    line: &mut [u8; 1024],
-    is_inverse: bool,
-    dimension: u8,
-    order: u8,
-    case: u8,
-) -> usize {
+fn replay_table(line: &mut [u8], is_inverse: bool, dimension: u8, order: u8, case: u8) -> usize {
     let mut table = [0u16; 4096];
     let n = nodes(dimension as usize, order as usize);
     let refusal = permute(
@@ -68,35 +60,37 @@ fn permute(is_inverse: bool, dimension: usize, order: usize, case: usize, table:
 }
 
 // The start of a table's line: what was called.
-fn put_call(line: &mut [u8; 1024], is_inverse: bool, dimension: u8, order: u8, case: u8) -> usize {
-    let after_word = if is_inverse {
-        put(line, 0, b"inverse")
-    } else {
-        put(line, 0, b"combined")
-    };
+fn put_call(line: &mut [u8], is_inverse: bool, dimension: u8, order: u8, case: u8) -> usize {
+    let after_word = put_word(line, is_inverse);
     let after_dimension = put_number(line, after_word, dimension as u64);
     let after_order = put_number(line, after_dimension, order as u64);
     let after_case = put_number(line, after_order, case as u64);
     put_byte(line, after_case, b':')
 }
 
-fn put_unknown(line: &mut [u8; 1024], kind: u8) -> usize {
-    let after_word = put(line, 0, b"unknown kind");
-    put_number(line, after_word, kind as u64)
+fn put_word(line: &mut [u8], is_inverse: bool) -> usize {
+    if is_inverse {
+        put(line, 0, b"inverse")
+    } else {
+        put(line, 0, b"combined")
+    }
 }
 
-// Writes the line of a record.
+// What the call of a record answers.
+fn put_answer(line: &mut [u8], kind: u8, dimension: u8, order: u8, number: u8) -> usize {
+    match kind {
+        0 => replay_reference(line, dimension, number),
+        1 => replay_table(line, false, dimension, order, number),
+        2 => replay_table(line, true, dimension, order, number),
+        _ => put_unknown(line, kind),
+    }
+}
+
+// Writes the line of a record. The longest has 402 bytes.
 fn replay(kind: u8, dimension: u8, order: u8, number: u8) -> bool {
     let mut line = [0u8; 1024];
-    let to = match kind {
-        0 => replay_reference(&mut line, dimension, number),
-        1 => replay_table(&mut line, false, dimension, order, number),
-        2 => replay_table(&mut line, true, dimension, order, number),
-        _ => put_unknown(&mut line, kind),
-    };
-    let after_end = put_byte(&mut line, to, b'\n');
-    let length = ended(&line, after_end);
-    io::write_all(STDOUT_FILENO, &line[..length])
+    let to = put_answer(&mut line, kind, dimension, order, number);
+    print(&mut line, to)
 }
 
 // Replays the whole records of a block.

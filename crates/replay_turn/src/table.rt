@@ -1,7 +1,7 @@
 // The tables of a turned block as text: their entries where they are few, and otherwise a number
 // that tells two tables apart.
-use crate::line::put;
-use crate::line::put_number;
+use text::put;
+use text::put_number;
 ghost use Prim.Native.Nat.{_≤_, _<_};
 
 // How many nodes a block has: the order to the power of the dimension, or 0 where one of the two is
@@ -24,7 +24,7 @@ pub fn nodes(dimension: usize, order: usize) -> usize
 }
 
 // The first `n` entries of a table, or the mark # and their hash.
-pub fn put_table(line: &mut [u8; 1024], to: usize, table: &[u16; 4096], n: usize) -> usize
+pub fn put_table(line: &mut [u8], to: usize, table: &[u16; 4096], n: usize) -> usize
     requires { ⌜ n ≤ 4096 ⌝ }
 {
     if n <= 64 {
@@ -34,7 +34,7 @@ pub fn put_table(line: &mut [u8; 1024], to: usize, table: &[u16; 4096], n: usize
     put_number(line, after_mark, hash(table, n))
 }
 
-fn put_entries(line: &mut [u8; 1024], to: usize, table: &[u16; 4096], n: usize) -> usize
+fn put_entries(line: &mut [u8], to: usize, table: &[u16; 4096], n: usize) -> usize
     requires { ⌜ n ≤ 4096 ⌝ }
 {
     let mut next = to;

@@ -1,4 +1,4 @@
--- `replay_turn::line::put_signed` is safe and ends: a signed number is read back from its bits, and its opposite fits 64 bits.
+-- `text::magnitude` is safe and ends: a signed number is read back from its bits, and its opposite fits 64 bits.
 -- Assumes nothing.
 use mathlib.Core.Path.{_≡_}
 use mathlib.Core.Bool.{true, false}
@@ -12,8 +12,8 @@ use mir.Val.{Fits, SFits, ofZ, toZ}
 use mir.Facts.{toZ-ofZ}
 use borrow.Author.Needs.{needs}
 use borrow.Author.Tests.{ltb-true}
-use Rattle.replay_turn.proofs.line.put_signed.Statement.{statement}
-use Rattle.replay_turn.proofs.line.put_signed.Tie as tie
+use Rattle.text.proofs.magnitude.Statement.{statement}
+use Rattle.text.proofs.magnitude.Tie as tie
 
 -- that it can be cast to an unsigned number
 abbrev Whole : ℤ → Type 0
@@ -47,55 +47,23 @@ module _ (z : ℤ) (f : SFits w32 z) where
   bits-natural : ltZ (toZ w32 (ofZ w32 z)) (pos 0) ≡ false → Whole (toZ w32 (ofZ w32 z))
   bits-natural h = rw (toZ-ofZ f) (natural z f (rw (toZ-ofZ f) at h))
 
-slice-aggregate-put : tie.Need-slice-aggregate-put
-slice-aggregate-put c = search needs
+cast-result : tie.Need-cast-result
+cast-result c = bits-widened (c .before .args .n) (c .before .fits .n)
 
-put-requires : tie.Need-put-requires
-put-requires c κs = search needs
+sub-result : tie.Need-sub-result
+sub-result c = bits-opposite (c .before .args .n) (c .before .fits .n) (c .if1 .taken)
 
-cast-put-digits : tie.Need-cast-put-digits
-cast-put-digits c =
-    let x = c .before .before .before .before .before in
-    bits-widened (x .args .n) (x .fits .n)
+cast-result-2 : tie.Need-cast-result-2
+cast-result-2 c = bits-whole (c .before .args .n) (c .before .fits .n) (c .if1 .taken)
 
-sub-put-digits : tie.Need-sub-put-digits
-sub-put-digits c =
-    let x = c .before .before .before .before .before in
-    bits-opposite (x .args .n) (x .fits .n) (c .before .before .before .before .if1 .taken)
-
-cast-put-digits-2 : tie.Need-cast-put-digits-2
-cast-put-digits-2 c =
-    let x = c .before .before .before .before .before in
-    bits-whole (x .args .n) (x .fits .n) (c .before .before .before .before .if1 .taken)
-
-put-digits-requires : tie.Need-put-digits-requires
-put-digits-requires c κs = search needs
+cast-result-3 : tie.Need-cast-result-3
+cast-result-3 c = bits-natural (c .before .args .n) (c .before .fits .n) (c .if1 .left)
 
 returns : tie.Need-returns
 returns c = search needs
 
-cast-put-number : tie.Need-cast-put-number
-cast-put-number c =
-    let x = c .before .before in
-    bits-natural (x .args .n) (x .fits .n) (c .before .if1 .left)
-
-put-number-requires : tie.Need-put-number-requires
-put-number-requires c κs = search needs
-
 returns-2 : tie.Need-returns-2
 returns-2 c = search needs
 
-pub put-signed-spec : {M : Type 1} → statement M
-put-signed-spec =
-    tie.close
-    (tie.spec
-    slice-aggregate-put
-    put-requires
-    cast-put-digits
-    sub-put-digits
-    cast-put-digits-2
-    put-digits-requires
-    returns
-    cast-put-number
-    put-number-requires
-    returns-2)
+pub magnitude-spec : {M : Type 1} → statement M
+magnitude-spec = tie.close (tie.spec cast-result sub-result cast-result-2 cast-result-3 returns returns-2)

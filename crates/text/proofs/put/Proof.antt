@@ -1,13 +1,14 @@
--- `replay_turn::line::put` is safe and ends. Nothing has to hold from turn to turn, so the invariant says nothing.
+-- `text::put` is safe and ends. The loop's invariant: the line is as long as it was.
 -- The measure is what is left of the word. Assumes nothing.
+use mathlib.Core.Path.{_≡_}
 use Prim.Native.Nat.{_-_}
 use lib.ListN.{length}
 use borrow.Author.Needs.{needs}
-use Rattle.replay_turn.proofs.line.put.Statement.{statement}
-use Rattle.replay_turn.proofs.line.put.Tie as tie
+use Rattle.text.proofs.put.Statement.{statement}
+use Rattle.text.proofs.put.Tie as tie
 
 abbrev Inv-loop : tie.InvT-loop
-Inv-loop line₀ to word next₀ i₀ line next i = Unit {0}
+Inv-loop line₀ to word next₀ i₀ line next i = length line ≡ length line₀
 
 abbrev μ-loop : tie.MeasureT-loop
 μ-loop line₀ to word next₀ i₀ line next i = length word - i
@@ -30,6 +31,9 @@ loop-less c = search needs
 loop-again : tie.Need-loop-again Inv-loop μ-loop
 loop-again c = search needs
 
+same-length : tie.Need-same-length Inv-loop μ-loop
+same-length c = search needs
+
 returns : tie.Need-returns Inv-loop μ-loop
 returns c = search needs
 
@@ -45,4 +49,5 @@ put-spec =
     add-i
     loop-less
     loop-again
+    same-length
     returns)

@@ -1,15 +1,16 @@
 // The cases that ask for a block to be transferred.
 use crate::case::Case;
 use crate::case::read_floats;
-use crate::line::put;
+use crate::line::Line;
 use crate::line::put_answer;
-use crate::line::put_number;
 use crate::line::put_short;
 use crate::size::block;
 use crate::size::square;
+use text::put;
+use text::put_number;
 
 // Kind 4: a block that is transferred; the case's rows are its child, and the flag says L2L.
-pub fn replay_block(line: &mut [u8; 2048], case: Case) -> usize {
+pub fn replay_block(line: &mut Line, case: Case) -> usize {
     let mut input = [0.0; 4096];
     let mut operators = [0.0; 512];
     let n = block(case.dimension, case.order);
@@ -17,12 +18,7 @@ pub fn replay_block(line: &mut [u8; 2048], case: Case) -> usize {
     read_block(line, case, &mut input[..n], &mut operators[..k])
 }
 
-fn read_block(
-    line: &mut [u8; 2048],
-    case: Case,
-    input: &mut [f64],
-    operators: &mut [f64],
-) -> usize {
+fn read_block(line: &mut Line, case: Case, input: &mut [f64], operators: &mut [f64]) -> usize {
     if !read_floats(input) {
         return put_short(line);
     }
@@ -34,7 +30,7 @@ fn read_block(
 }
 
 // The start of a transfer's line: what was called.
-fn put_call(line: &mut [u8; 2048], case: Case) -> usize {
+fn put_call(line: &mut Line, case: Case) -> usize {
     let after_word = put(line, 0, b"transfer");
     let after_dimension = put_number(line, after_word, case.dimension as u64);
     let after_order = put_number(line, after_dimension, case.order as u64);
@@ -45,7 +41,7 @@ fn put_call(line: &mut [u8; 2048], case: Case) -> usize {
     put(line, after_child, b" m2m:")
 }
 
-fn apply(line: &mut [u8; 2048], to: usize, case: Case, input: &[f64], operators: &[f64]) -> usize {
+fn apply(line: &mut Line, to: usize, case: Case, input: &[f64], operators: &[f64]) -> usize {
     let mut first = [0.0; 4096];
     let mut second = [0.0; 4096];
     let n = block(case.dimension, case.order);
@@ -61,7 +57,7 @@ fn apply(line: &mut [u8; 2048], to: usize, case: Case, input: &[f64], operators:
 }
 
 fn put_block(
-    line: &mut [u8; 2048],
+    line: &mut Line,
     to: usize,
     case: Case,
     input: &[f64],

@@ -2,10 +2,8 @@
 use crate::case::Case;
 use crate::case::read_floats;
 use crate::case::up_to;
-use crate::line::put;
+use crate::line::Line;
 use crate::line::put_answer;
-use crate::line::put_byte;
-use crate::line::put_number;
 use crate::line::put_short;
 use crate::size::coordinates;
 use crate::size::factors;
@@ -14,9 +12,12 @@ use crate::size::rows_if;
 use crate::size::square;
 use crate::size::values;
 use coefficients::Cell;
+use text::put;
+use text::put_byte;
+use text::put_number;
 
 // Kind 7: the coefficients of a cell's points; where the flag is set, those of gradients too.
-pub fn replay_coefficients(line: &mut [u8; 2048], case: Case) -> usize {
+pub fn replay_coefficients(line: &mut Line, case: Case) -> usize {
     let mut length = [0.0; 1];
     let mut centre = [0.0; 3];
     if !read_floats(&mut length) {
@@ -26,7 +27,7 @@ pub fn replay_coefficients(line: &mut [u8; 2048], case: Case) -> usize {
     read_centre(line, case, length[0], &mut centre[..n])
 }
 
-fn read_centre(line: &mut [u8; 2048], case: Case, length: f64, centre: &mut [f64]) -> usize {
+fn read_centre(line: &mut Line, case: Case, length: f64, centre: &mut [f64]) -> usize {
     if !read_floats(centre) {
         return put_short(line);
     }
@@ -36,7 +37,7 @@ fn read_centre(line: &mut [u8; 2048], case: Case, length: f64, centre: &mut [f64
 }
 
 fn read_polynomials(
-    line: &mut [u8; 2048],
+    line: &mut Line,
     case: Case,
     length: f64,
     centre: &[f64],
@@ -51,7 +52,7 @@ fn read_polynomials(
 }
 
 fn read_points(
-    line: &mut [u8; 2048],
+    line: &mut Line,
     case: Case,
     length: f64,
     centre: &[f64],
@@ -66,7 +67,7 @@ fn read_points(
 }
 
 // The start of a line: what was called.
-fn put_call(line: &mut [u8; 2048], case: Case) -> usize {
+fn put_call(line: &mut Line, case: Case) -> usize {
     let after_word = put(line, 0, b"coefficients");
     let after_dimension = put_number(line, after_word, case.dimension as u64);
     let after_order = put_number(line, after_dimension, case.order as u64);
@@ -76,7 +77,7 @@ fn put_call(line: &mut [u8; 2048], case: Case) -> usize {
 
 // The room that the call works in comes first, then the room for its answers.
 fn make_room(
-    line: &mut [u8; 2048],
+    line: &mut Line,
     to: usize,
     case: Case,
     length: f64,
@@ -102,7 +103,7 @@ fn make_room(
 }
 
 fn evaluate(
-    line: &mut [u8; 2048],
+    line: &mut Line,
     to: usize,
     case: Case,
     length: f64,
@@ -132,7 +133,7 @@ fn evaluate(
 }
 
 fn put_coefficients(
-    line: &mut [u8; 2048],
+    line: &mut Line,
     to: usize,
     case: Case,
     length: f64,
@@ -166,7 +167,7 @@ fn put_coefficients(
 
 // The scaled points, then the coefficients of values and those of gradients, a bar between.
 fn put_answers(
-    line: &mut [u8; 2048],
+    line: &mut Line,
     to: usize,
     with_gradients: bool,
     refusal: u8,

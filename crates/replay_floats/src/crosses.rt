@@ -2,18 +2,20 @@
 use crate::case::Case;
 use crate::case::read_floats;
 use crate::case::up_to;
-use crate::line::put;
-use crate::line::put_byte;
+use crate::line::Line;
 use crate::line::put_float;
 use crate::line::put_floats;
-use crate::line::put_number;
 use crate::line::put_short;
 use crate::size::area;
 use crate::size::lesser;
 use aca::Approximation;
+use text::put;
+use text::put_byte;
+use text::put_number;
+use text::put_refusal;
 
 // Kind 10: a tolerance, and a block, column by column. Its columns stand in the place of an order.
-pub fn replay_cross(line: &mut [u8; 2048], case: Case) -> usize {
+pub fn replay_cross(line: &mut Line, case: Case) -> usize {
     let mut epsilon = [0.0; 1];
     let mut samples = [0.0; 4096];
     if !read_floats(&mut epsilon) {
@@ -25,7 +27,7 @@ pub fn replay_cross(line: &mut [u8; 2048], case: Case) -> usize {
 
 // What the memory that is lent holds before the call is not what a call writes, so that a place
 // that stays as it was is seen: 7 in the factors, 9,999 in the lists, 5 in the working row and column.
-fn read_samples(line: &mut [u8; 2048], case: Case, epsilon: f64, samples: &mut [f64]) -> usize {
+fn read_samples(line: &mut Line, case: Case, epsilon: f64, samples: &mut [f64]) -> usize {
     if !read_floats(samples) {
         return put_short(line);
     }
@@ -38,7 +40,7 @@ fn read_samples(line: &mut [u8; 2048], case: Case, epsilon: f64, samples: &mut [
 }
 
 fn lend_lists(
-    line: &mut [u8; 2048],
+    line: &mut Line,
     case: Case,
     epsilon: f64,
     samples: &[f64],
@@ -61,7 +63,7 @@ fn lend_lists(
 }
 
 fn lend_lines(
-    line: &mut [u8; 2048],
+    line: &mut Line,
     case: Case,
     epsilon: f64,
     samples: &[f64],
@@ -89,7 +91,7 @@ fn lend_lines(
 }
 
 fn approximate(
-    line: &mut [u8; 2048],
+    line: &mut Line,
     case: Case,
     epsilon: f64,
     samples: &[f64],
@@ -116,7 +118,7 @@ fn approximate(
 }
 
 fn put_answer(
-    line: &mut [u8; 2048],
+    line: &mut Line,
     case: Case,
     answer: Approximation,
     u: &[f64],
@@ -137,12 +139,9 @@ fn put_answer(
     put_pair(line, after_column_list, row, column)
 }
 
-fn put_report(line: &mut [u8; 2048], to: usize, answer: Approximation) -> usize {
+fn put_report(line: &mut Line, to: usize, answer: Approximation) -> usize {
     match answer {
-        Approximation::Refused(refusal) => {
-            let after_word = put(line, to, b" refused");
-            put_number(line, after_word, refusal as u64)
-        }
+        Approximation::Refused(refusal) => put_refusal(line, to, refusal),
         Approximation::Done(report) => {
             let before_rank = put(line, to, b" rank");
             let after_rank = put_number(line, before_rank, report.rank as u64);
@@ -156,7 +155,7 @@ fn put_report(line: &mut [u8; 2048], to: usize, answer: Approximation) -> usize 
 }
 
 // Two lists of floats, each after a bar.
-fn put_pair(line: &mut [u8; 2048], to: usize, first: &[f64], second: &[f64]) -> usize {
+fn put_pair(line: &mut Line, to: usize, first: &[f64], second: &[f64]) -> usize {
     let before_first = put(line, to, b" |");
     let after_first = put_floats(line, before_first, first);
     let before_second = put(line, after_first, b" |");
@@ -164,7 +163,7 @@ fn put_pair(line: &mut [u8; 2048], to: usize, first: &[f64], second: &[f64]) -> 
 }
 
 // A bar and each number of a list.
-fn put_list(line: &mut [u8; 2048], to: usize, list: &[u16]) -> usize {
+fn put_list(line: &mut Line, to: usize, list: &[u16]) -> usize {
     let mut next = put(line, to, b" |");
     let mut i = 0;
     while i < list.len() {
@@ -174,6 +173,6 @@ fn put_list(line: &mut [u8; 2048], to: usize, list: &[u16]) -> usize {
     next
 }
 
-fn put_short_number(line: &mut [u8; 2048], to: usize, n: u16) -> usize {
+fn put_short_number(line: &mut Line, to: usize, n: u16) -> usize {
     put_number(line, to, n as u64)
 }

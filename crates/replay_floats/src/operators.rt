@@ -1,15 +1,16 @@
 // The cases that ask for the operators of an order.
 use crate::case::read_floats;
 use crate::case::up_to;
-use crate::line::put;
+use crate::line::Line;
 use crate::line::put_answer;
-use crate::line::put_byte;
-use crate::line::put_number;
 use crate::line::put_short;
 use crate::size::square;
+use text::put;
+use text::put_byte;
+use text::put_number;
 
 // Kind 3: the operators of an order, from nodes and the polynomials there.
-pub fn replay_operators(line: &mut [u8; 2048], order: usize) -> usize {
+pub fn replay_operators(line: &mut Line, order: usize) -> usize {
     let mut nodes = [0.0; 16];
     let mut polynomials = [0.0; 256];
     let n = up_to(16, order);
@@ -17,12 +18,7 @@ pub fn replay_operators(line: &mut [u8; 2048], order: usize) -> usize {
     read_nodes(line, order, &mut nodes[..n], &mut polynomials[..k])
 }
 
-fn read_nodes(
-    line: &mut [u8; 2048],
-    order: usize,
-    nodes: &mut [f64],
-    polynomials: &mut [f64],
-) -> usize {
+fn read_nodes(line: &mut Line, order: usize, nodes: &mut [f64], polynomials: &mut [f64]) -> usize {
     if !read_floats(nodes) {
         return put_short(line);
     }
@@ -35,7 +31,7 @@ fn read_nodes(
 }
 
 fn put_operators(
-    line: &mut [u8; 2048],
+    line: &mut Line,
     order: usize,
     nodes: &[f64],
     polynomials: &[f64],

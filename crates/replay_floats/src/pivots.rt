@@ -2,31 +2,30 @@
 use crate::case::Case;
 use crate::case::read_floats;
 use crate::case::up_to;
-use crate::line::put;
-use crate::line::put_byte;
-use crate::line::put_number;
+use crate::line::Line;
 use crate::line::put_short;
 use choices::Place;
 use libc::STDIN_FILENO;
+use text::put;
+use text::put_byte;
+use text::put_number;
+use text::put_refusal;
 
-fn put_place(line: &mut [u8; 2048], to: usize, place: Place) -> usize {
+fn put_place(line: &mut Line, to: usize, place: Place) -> usize {
     match place {
-        Place::Refused(refusal) => {
-            let after_word = put(line, to, b" refused");
-            put_number(line, after_word, refusal as u64)
-        }
+        Place::Refused(refusal) => put_refusal(line, to, refusal),
         Place::At(k) => put_number(line, to, k as u64),
     }
 }
 
 // Kind 8: the place of the largest of some entries; the mask's bytes follow the entries.
-pub fn replay_argmax(line: &mut [u8; 2048], case: Case) -> usize {
+pub fn replay_argmax(line: &mut Line, case: Case) -> usize {
     let mut entries = [0.0; 1024];
     let n = up_to(1024, case.rows);
     read_entries(line, &mut entries[..n])
 }
 
-fn read_entries(line: &mut [u8; 2048], entries: &mut [f64]) -> usize {
+fn read_entries(line: &mut Line, entries: &mut [f64]) -> usize {
     if !read_floats(entries) {
         return put_short(line);
     }
@@ -35,7 +34,7 @@ fn read_entries(line: &mut [u8; 2048], entries: &mut [f64]) -> usize {
     read_mask(line, entries, &mut mask[..n])
 }
 
-fn read_mask(line: &mut [u8; 2048], entries: &[f64], mask: &mut [u8]) -> usize {
+fn read_mask(line: &mut Line, entries: &[f64], mask: &mut [u8]) -> usize {
     let got = io::read_full(STDIN_FILENO, mask);
     if got < mask.len() {
         return put_short(line);
@@ -47,7 +46,7 @@ fn read_mask(line: &mut [u8; 2048], entries: &[f64], mask: &mut [u8]) -> usize {
 }
 
 // Kind 9: where some singular values are cut off; the tolerance comes before them.
-pub fn replay_cutoff(line: &mut [u8; 2048], case: Case) -> usize {
+pub fn replay_cutoff(line: &mut Line, case: Case) -> usize {
     let mut epsilon = [0.0; 1];
     let mut values = [0.0; 1024];
     if !read_floats(&mut epsilon) {
@@ -57,7 +56,7 @@ pub fn replay_cutoff(line: &mut [u8; 2048], case: Case) -> usize {
     read_values(line, epsilon[0], &mut values[..n])
 }
 
-fn read_values(line: &mut [u8; 2048], epsilon: f64, values: &mut [f64]) -> usize {
+fn read_values(line: &mut Line, epsilon: f64, values: &mut [f64]) -> usize {
     if !read_floats(values) {
         return put_short(line);
     }

@@ -2,16 +2,17 @@
 use crate::case::Case;
 use crate::case::read_floats;
 use crate::case::up_to;
-use crate::line::put;
+use crate::line::Line;
 use crate::line::put_answer;
-use crate::line::put_byte;
-use crate::line::put_number;
 use crate::line::put_short;
 use crate::size::block;
 use crate::size::coordinates;
+use text::put;
+use text::put_byte;
+use text::put_number;
 
 // Kind 5: the points of a target block.
-pub fn replay_targets(line: &mut [u8; 2048], case: Case) -> usize {
+pub fn replay_targets(line: &mut Line, case: Case) -> usize {
     let after_word = put(line, 0, b"targets");
     let after_shape = put_shape(line, after_word, case);
     let to = put_byte(line, after_shape, b':');
@@ -19,7 +20,7 @@ pub fn replay_targets(line: &mut [u8; 2048], case: Case) -> usize {
 }
 
 // Kind 6: the points of a source block; the case's rows are its reference.
-pub fn replay_sources(line: &mut [u8; 2048], case: Case) -> usize {
+pub fn replay_sources(line: &mut Line, case: Case) -> usize {
     let after_word = put(line, 0, b"sources");
     let after_shape = put_shape(line, after_word, case);
     let after_reference = put_number(line, after_shape, case.rows as u64);
@@ -27,12 +28,12 @@ pub fn replay_sources(line: &mut [u8; 2048], case: Case) -> usize {
     read_nodes(line, to, case, true)
 }
 
-fn put_shape(line: &mut [u8; 2048], to: usize, case: Case) -> usize {
+fn put_shape(line: &mut Line, to: usize, case: Case) -> usize {
     let after_dimension = put_number(line, to, case.dimension as u64);
     put_number(line, after_dimension, case.order as u64)
 }
 
-fn read_nodes(line: &mut [u8; 2048], to: usize, case: Case, is_source: bool) -> usize {
+fn read_nodes(line: &mut Line, to: usize, case: Case, is_source: bool) -> usize {
     let mut length = [0.0; 1];
     let mut nodes = [0.0; 16];
     if !read_floats(&mut length) {
@@ -43,7 +44,7 @@ fn read_nodes(line: &mut [u8; 2048], to: usize, case: Case, is_source: bool) -> 
 }
 
 fn read_block(
-    line: &mut [u8; 2048],
+    line: &mut Line,
     to: usize,
     case: Case,
     is_source: bool,
@@ -59,7 +60,7 @@ fn read_block(
 }
 
 fn put_points(
-    line: &mut [u8; 2048],
+    line: &mut Line,
     to: usize,
     case: Case,
     is_source: bool,

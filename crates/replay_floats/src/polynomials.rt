@@ -2,22 +2,23 @@
 use crate::case::Case;
 use crate::case::read_floats;
 use crate::case::up_to;
-use crate::line::put;
+use crate::line::Line;
 use crate::line::put_answer;
-use crate::line::put_byte;
-use crate::line::put_number;
 use crate::line::put_short;
 use crate::size::entries;
 use crate::size::rows_if;
+use text::put;
+use text::put_byte;
+use text::put_number;
 
 // Kind 1: the nodes of an order.
-pub fn replay_nodes(line: &mut [u8; 2048], order: usize) -> usize {
+pub fn replay_nodes(line: &mut Line, order: usize) -> usize {
     let mut nodes = [0.0; 16];
     let n = up_to(16, order);
     put_nodes(line, order, &mut nodes[..n])
 }
 
-fn put_nodes(line: &mut [u8; 2048], order: usize, nodes: &mut [f64]) -> usize {
+fn put_nodes(line: &mut Line, order: usize, nodes: &mut [f64]) -> usize {
     let refusal = chebyshev::generate_chebyshev_nodes(order, nodes);
     let after_word = put(line, 0, b"nodes");
     let after_order = put_number(line, after_word, order as u64);
@@ -26,13 +27,13 @@ fn put_nodes(line: &mut [u8; 2048], order: usize, nodes: &mut [f64]) -> usize {
 }
 
 // Kind 2: the polynomials at some points and, where the flag is set, their derivatives.
-pub fn replay_polynomials(line: &mut [u8; 2048], case: Case) -> usize {
+pub fn replay_polynomials(line: &mut Line, case: Case) -> usize {
     let mut points = [0.0; 4096];
     let n = up_to(4096, case.rows);
     read_points(line, case, &mut points[..n])
 }
 
-fn read_points(line: &mut [u8; 2048], case: Case, points: &mut [f64]) -> usize {
+fn read_points(line: &mut Line, case: Case, points: &mut [f64]) -> usize {
     if !read_floats(points) {
         return put_short(line);
     }
@@ -43,7 +44,7 @@ fn read_points(line: &mut [u8; 2048], case: Case, points: &mut [f64]) -> usize {
     evaluate(line, to, case, points)
 }
 
-fn evaluate(line: &mut [u8; 2048], to: usize, case: Case, points: &[f64]) -> usize {
+fn evaluate(line: &mut Line, to: usize, case: Case, points: &[f64]) -> usize {
     let mut polynomials = [0.0; 65536];
     let mut derivatives = [0.0; 65536];
     let n = entries(case.order, case.rows);
@@ -59,7 +60,7 @@ fn evaluate(line: &mut [u8; 2048], to: usize, case: Case, points: &[f64]) -> usi
 }
 
 fn put_polynomials(
-    line: &mut [u8; 2048],
+    line: &mut Line,
     to: usize,
     case: Case,
     points: &[f64],

@@ -13,28 +13,28 @@ use text::put_refusal;
 use text::put_signed;
 use text::put_unknown;
 use turn::Reference;
-use turn::Vector;
+
+// A line has room for every answer: the longest has 402 bytes.
+type Line = [u8; 1024];
 
 // Kind 0: a reference vector.
-fn replay_reference(line: &mut [u8], dimension: u8, number: u8) -> usize {
+fn replay_reference(line: &mut Line, dimension: u8, number: u8) -> usize {
     let after_word = put(line, 0, b"reference");
     let after_dimension = put_number(line, after_word, dimension as u64);
     let after_number = put_number(line, after_dimension, number as u64);
     let to = put_byte(line, after_number, b':');
     match turn::reference_vector(dimension as usize, number as usize) {
         Reference::Refused(refusal) => put_refusal(line, to, refusal),
-        Reference::Found(vector) => put_vector(line, to, vector),
+        Reference::Found(vector) => {
+            let after_x = put_signed(line, to, vector.0);
+            let after_y = put_signed(line, after_x, vector.1);
+            put_signed(line, after_y, vector.2)
+        }
     }
 }
 
-fn put_vector(line: &mut [u8], to: usize, vector: Vector) -> usize {
-    let after_x = put_signed(line, to, vector.0);
-    let after_y = put_signed(line, after_x, vector.1);
-    put_signed(line, after_y, vector.2)
-}
-
 // Kinds 1 and 2: the table of a case, or its inverse.
-fn replay_table(line: &mut [u8], is_inverse: bool, dimension: u8, order: u8, case: u8) -> usize {
+fn replay_table(line: &mut Line, is_inverse: bool, dimension: u8, order: u8, case: u8) -> usize {
     let mut table = [0u16; 4096];
     let n = nodes(dimension as usize, order as usize);
     let refusal = permute(
@@ -60,44 +60,34 @@ fn permute(is_inverse: bool, dimension: usize, order: usize, case: usize, table:
 }
 
 // The start of a table's line: what was called.
-fn put_call(line: &mut [u8], is_inverse: bool, dimension: u8, order: u8, case: u8) -> usize {
-    let after_word = put_word(line, is_inverse);
+fn put_call(line: &mut Line, is_inverse: bool, dimension: u8, order: u8, case: u8) -> usize {
+    let after_word = if is_inverse {
+        put(line, 0, b"inverse")
+    } else {
+        put(line, 0, b"combined")
+    };
     let after_dimension = put_number(line, after_word, dimension as u64);
     let after_order = put_number(line, after_dimension, order as u64);
     let after_case = put_number(line, after_order, case as u64);
     put_byte(line, after_case, b':')
 }
 
-fn put_word(line: &mut [u8], is_inverse: bool) -> usize {
-    if is_inverse {
-        put(line, 0, b"inverse")
-    } else {
-        put(line, 0, b"combined")
-    }
-}
-
-// What the call of a record answers.
-fn put_answer(line: &mut [u8], kind: u8, dimension: u8, order: u8, number: u8) -> usize {
-    match kind {
+// Writes the line of a record.
+fn replay(line: &mut Line, kind: u8, dimension: u8, order: u8, number: u8) -> bool {
+    let to = match kind {
         0 => replay_reference(line, dimension, number),
         1 => replay_table(line, false, dimension, order, number),
         2 => replay_table(line, true, dimension, order, number),
         _ => put_unknown(line, kind),
-    }
-}
-
-// Writes the line of a record. The longest has 402 bytes.
-fn replay(kind: u8, dimension: u8, order: u8, number: u8) -> bool {
-    let mut line = [0u8; 1024];
-    let to = put_answer(&mut line, kind, dimension, order, number);
-    print(&mut line, to)
+    };
+    print(line, to)
 }
 
 // Replays the whole records of a block.
-fn replay_records(input: &[u8]) {
+fn replay_records(line: &mut Line, input: &[u8]) {
     let mut at = 0;
     while 4 <= input.len() - at {
-        replay(input[at], input[at + 1], input[at + 2], input[at + 3]);
+        replay(line, input[at], input[at + 1], input[at + 2], input[at + 3]);
         at += 4;
     }
 }
@@ -106,8 +96,9 @@ fn replay_records(input: &[u8]) {
 // has whole records, so none stands in two.
 fn replay_block() -> bool {
     let mut input = [0u8; 4096];
+    let mut line = [0u8; 1024];
     let n = io::read_full(STDIN_FILENO, &mut input);
-    replay_records(&input[..n]);
+    replay_records(&mut line, &input[..n]);
     n == 4096
 }
 

@@ -1,5 +1,6 @@
 // The tables of a turned block as text: their entries where they are few, and otherwise a number
 // that tells two tables apart.
+use crate::Line;
 use text::put;
 use text::put_number;
 ghost use Prim.Native.Nat.{_≤_, _<_};
@@ -24,7 +25,7 @@ pub fn nodes(dimension: usize, order: usize) -> usize
 }
 
 // The first `n` entries of a table, or the mark # and their hash.
-pub fn put_table(line: &mut [u8], to: usize, table: &[u16; 4096], n: usize) -> usize
+pub fn put_table(line: &mut Line, to: usize, table: &[u16; 4096], n: usize) -> usize
     requires { ⌜ n ≤ 4096 ⌝ }
 {
     if n <= 64 {
@@ -34,7 +35,7 @@ pub fn put_table(line: &mut [u8], to: usize, table: &[u16; 4096], n: usize) -> u
     put_number(line, after_mark, hash(table, n))
 }
 
-fn put_entries(line: &mut [u8], to: usize, table: &[u16; 4096], n: usize) -> usize
+fn put_entries(line: &mut Line, to: usize, table: &[u16; 4096], n: usize) -> usize
     requires { ⌜ n ≤ 4096 ⌝ }
 {
     let mut next = to;

@@ -5,10 +5,10 @@ use Rattle.replay_floats.proofs.main.Statement.{statement}
 use Rattle.replay_floats.proofs.main.Tie as tie
 
 abbrev Inv-loop : tie.InvT-loop
-Inv-loop turns₀ turns = Unit {0}
+Inv-loop line₀ turns₀ line turns = Unit {0}
 
 abbrev μ-loop : tie.MeasureT-loop
-μ-loop turns₀ turns = turns
+μ-loop line₀ turns₀ line turns = turns
 
 loop-holds : tie.Need-loop-holds Inv-loop μ-loop
 loop-holds c = search needs

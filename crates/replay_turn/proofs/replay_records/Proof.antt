@@ -8,10 +8,10 @@ use Rattle.replay_turn.proofs.replay_records.Statement.{statement}
 use Rattle.replay_turn.proofs.replay_records.Tie as tie
 
 abbrev Inv-loop : tie.InvT-loop
-Inv-loop input at₀ at = at ≤ length input
+Inv-loop line₀ input at₀ line at = at ≤ length input
 
 abbrev μ-loop : tie.MeasureT-loop
-μ-loop input at₀ at = length input - at
+μ-loop line₀ input at₀ line at = length input - at
 
 loop-holds : tie.Need-loop-holds Inv-loop μ-loop
 loop-holds c = omega arith

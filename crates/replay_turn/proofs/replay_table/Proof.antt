@@ -24,17 +24,11 @@ put-call-requires c κs = search needs
 put-refusal-requires : tie.Need-put-refusal-requires
 put-refusal-requires c κs = search needs
 
-same-length : tie.Need-same-length
-same-length c = search needs
-
 returns : tie.Need-returns
 returns c = search needs
 
 put-table-requires : tie.Need-put-table-requires
 put-table-requires c κs = search needs
-
-same-length-2 : tie.Need-same-length-2
-same-length-2 c = search needs
 
 returns-2 : tie.Need-returns-2
 returns-2 c = search needs
@@ -49,8 +43,6 @@ replay-table-spec =
     permute-requires
     put-call-requires
     put-refusal-requires
-    same-length
     returns
     put-table-requires
-    same-length-2
     returns-2)

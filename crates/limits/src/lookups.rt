@@ -1,23 +1,12 @@
 // Walks the limits of the calls that look a vector up. They are lent nothing, so nothing can change.
 use crate::counts::note;
-use crate::counts::report;
 use crate::sizes::dimension_at;
 use turn::LookUp;
 use turn::Reference;
 use turn::Vector;
 
 // Six dimensions, and seven numbers for each of three entries.
-pub fn walk_look_up() {
-    let mut counts = [0u64; 14];
-    let mut k = 0;
-    while k < 2058 {
-        call_look_up(&mut counts, k);
-        k += 1;
-    }
-    report(b"look_up", &counts);
-}
-
-fn call_look_up(counts: &mut [u64; 14], k: usize) {
+pub fn call_look_up(counts: &mut [u64; 14], k: usize) {
     let dimension = dimension_at(k % 6);
     let x = entry_at(k / 6 % 7);
     let y = entry_at(k / 42 % 7);
@@ -63,17 +52,7 @@ fn entry_at(k: usize) -> i32 {
 }
 
 // Six dimensions, and eight numbers.
-pub fn walk_reference() {
-    let mut counts = [0u64; 14];
-    let mut k = 0;
-    while k < 48 {
-        call_reference(&mut counts, k);
-        k += 1;
-    }
-    report(b"reference_vector", &counts);
-}
-
-fn call_reference(counts: &mut [u64; 14], k: usize) {
+pub fn call_reference(counts: &mut [u64; 14], k: usize) {
     let dimension = dimension_at(k % 6);
     let wanted = number_at(k / 6);
     let answer = turn::reference_vector(dimension, wanted);

@@ -1,6 +1,5 @@
 // Walks the limits of the operators between a block and its children, and of the tensor transfer.
 use crate::counts::note;
-use crate::counts::report;
 use crate::patterns::are_floats;
 use crate::sizes::dimension_at;
 use crate::sizes::lent;
@@ -10,23 +9,13 @@ use crate::sizes::power;
 use crate::sizes::product;
 use crate::sizes::shape_expected;
 
-// Six orders, and four lengths for each of three buffers.
-pub fn walk_operators() {
-    let mut counts = [0u64; 14];
-    let mut k = 0;
-    while k < 384 {
-        lend_nodes(&mut counts, k);
-        k += 1;
-    }
-    report(b"get_m2m_transfer_operators", &counts);
-}
-
 // The operators of two children.
 fn pair(order: usize) -> usize {
     product(product(2, order), order)
 }
 
-fn lend_nodes(counts: &mut [u64; 14], k: usize) {
+// Six orders, and four lengths for each of three buffers.
+pub fn lend_nodes(counts: &mut [u64; 14], k: usize) {
     let nodes = [0.5; 40];
     let polynomials = [0.5; 300];
     let order = order_at(k % 6);
@@ -75,17 +64,7 @@ fn operators_expected(order: usize, fit: bool) -> u8 {
 }
 
 // Six dimensions, six orders, eight children, both ways, and four lengths for each of four buffers.
-pub fn walk_transfer() {
-    let mut counts = [0u64; 14];
-    let mut k = 0;
-    while k < 147456 {
-        lend_input(&mut counts, k);
-        k += 1;
-    }
-    report(b"apply_cheb_tensor_transfer", &counts);
-}
-
-fn lend_input(counts: &mut [u64; 14], k: usize) {
+pub fn lend_input(counts: &mut [u64; 14], k: usize) {
     let input = [0.5; 4100];
     let operators = [0.5; 600];
     let dimension = dimension_at(k % 6);

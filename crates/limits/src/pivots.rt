@@ -1,23 +1,12 @@
 // Walks the limits of masked argmax and of the rank cutoff. They only read what they are lent.
 use crate::counts::note;
-use crate::counts::report;
 use crate::sizes::lent;
 use crate::sizes::one_less;
 use crate::sizes::up_to;
 use choices::Place;
 
 // Six counts of entries, four lengths of the mask, and four bytes at its first or its last place.
-pub fn walk_argmax() {
-    let mut counts = [0u64; 14];
-    let mut k = 0;
-    while k < 192 {
-        lend_entries(&mut counts, k);
-        k += 1;
-    }
-    report(b"argmax_masked", &counts);
-}
-
-fn lend_entries(counts: &mut [u64; 14], k: usize) {
+pub fn lend_entries(counts: &mut [u64; 14], k: usize) {
     let entries = [7.0; 2000];
     let n = up_to(2000, count_at(k % 6));
     lend_mask(counts, k / 6, &entries[..n]);
@@ -90,17 +79,7 @@ fn byte_at(k: usize) -> u8 {
 }
 
 // Six counts of values, and four tolerances, of which none is refused.
-pub fn walk_cutoff() {
-    let mut counts = [0u64; 14];
-    let mut k = 0;
-    while k < 24 {
-        lend_values(&mut counts, k);
-        k += 1;
-    }
-    report(b"calculate_singular_values_cutoff", &counts);
-}
-
-fn lend_values(counts: &mut [u64; 14], k: usize) {
+pub fn lend_values(counts: &mut [u64; 14], k: usize) {
     let values = [7.0; 2000];
     let n = up_to(2000, count_at(k % 6));
     call_cutoff(counts, tolerance_at(k / 6), &values[..n]);

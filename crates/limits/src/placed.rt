@@ -1,6 +1,5 @@
 // Walks the limits of the target and the source points.
 use crate::counts::note;
-use crate::counts::report;
 use crate::lookups::number_at;
 use crate::lookups::reference_expected;
 use crate::patterns::are_floats;
@@ -15,17 +14,7 @@ use crate::sizes::shape_expected;
 
 // Six dimensions, six orders, four lengths for each of two buffers, eight lengths of the cell; and for sources eight
 // references, which come last, so that the first eighth of their calls is the walk of the targets.
-pub fn walk_points(are_sources: bool, calls: usize, name: &[u8]) {
-    let mut counts = [0u64; 14];
-    let mut k = 0;
-    while k < calls {
-        lend_points(&mut counts, are_sources, k);
-        k += 1;
-    }
-    report(name, &counts);
-}
-
-fn lend_points(counts: &mut [u64; 14], are_sources: bool, k: usize) {
+pub fn lend_points(counts: &mut [u64; 14], are_sources: bool, k: usize) {
     let nodes = [0.5; 40];
     let mut points = [7.0; 12300];
     let dimension = dimension_at(k % 6);

@@ -1,6 +1,5 @@
 // Walks the limits of the nodes and of the polynomials.
 use crate::counts::note;
-use crate::counts::report;
 use crate::patterns::are_floats;
 use crate::sizes::lent;
 use crate::sizes::order_at;
@@ -10,17 +9,7 @@ use crate::sizes::rows_at;
 use crate::sizes::size_if;
 
 // Six orders, and four lengths.
-pub fn walk_nodes() {
-    let mut counts = [0u64; 14];
-    let mut k = 0;
-    while k < 24 {
-        lend_nodes(&mut counts, k);
-        k += 1;
-    }
-    report(b"generate_chebyshev_nodes", &counts);
-}
-
-fn lend_nodes(counts: &mut [u64; 14], k: usize) {
+pub fn lend_nodes(counts: &mut [u64; 14], k: usize) {
     let mut nodes = [7.0; 40];
     let order = order_at(k % 6);
     let n = lent(40, order, k / 6);
@@ -42,17 +31,7 @@ fn nodes_expected(order: usize, nodes: usize) -> u8 {
 }
 
 // Six orders, six counts of points, with derivatives or without, and four lengths for each of three buffers.
-pub fn walk_polynomials() {
-    let mut counts = [0u64; 14];
-    let mut k = 0;
-    while k < 4608 {
-        lend_points(&mut counts, k);
-        k += 1;
-    }
-    report(b"evaluate_chebyshev_polynomials", &counts);
-}
-
-fn lend_points(counts: &mut [u64; 14], k: usize) {
+pub fn lend_points(counts: &mut [u64; 14], k: usize) {
     let points = [0.5; 4100];
     let order = order_at(k % 6);
     let rows = rows_at(k / 6 % 6);

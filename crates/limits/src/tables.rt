@@ -1,6 +1,5 @@
 // Walks the limits of the calls that write a table.
 use crate::counts::note;
-use crate::counts::report;
 use crate::patterns::are_shorts;
 use crate::sizes::dimension_at;
 use crate::sizes::lent;
@@ -9,17 +8,7 @@ use crate::sizes::power;
 use crate::sizes::shape_expected;
 
 // Six dimensions, six orders, eight cases, four lengths.
-pub fn walk_tables(is_inverse: bool, name: &[u8]) {
-    let mut counts = [0u64; 14];
-    let mut k = 0;
-    while k < 1152 {
-        lend_table(&mut counts, is_inverse, k);
-        k += 1;
-    }
-    report(name, &counts);
-}
-
-fn lend_table(counts: &mut [u64; 14], is_inverse: bool, k: usize) {
+pub fn lend_table(counts: &mut [u64; 14], is_inverse: bool, k: usize) {
     let mut table = [9999u16; 4100];
     let dimension = dimension_at(k % 6);
     let order = order_at(k / 6 % 6);

@@ -5,8 +5,10 @@ use text::put;
 use text::put_byte;
 use text::put_number;
 
-// A line has room for all counts: none has 300 bytes.
-pub type Line = [u8; 512];
+// The room of a line. None has 300 bytes.
+pub const ROOM: usize = 512;
+
+pub type Line = [u8; ROOM];
 
 const CALLS: usize = 11;
 

@@ -1,5 +1,6 @@
 // Walks the limits of a call: makes it once for each combination, and prints what came.
 use crate::cells;
+use crate::counts::ROOM;
 use crate::counts::report;
 use crate::crosses;
 use crate::lookups;
@@ -29,7 +30,7 @@ pub enum Call {
 
 pub fn walk(call: Call, calls: usize, name: &[u8]) -> bool {
     let mut counts = [0u64; 14];
-    let mut line = [0u8; 512];
+    let mut line = [0u8; ROOM];
     let mut k = 0;
     while k < calls {
         one_call(call, &mut counts, k);

@@ -6,8 +6,10 @@ use text::put_byte;
 use text::put_number;
 use text::put_refusal;
 
-// A line has room for every answer: the longest has 1,226 bytes.
-pub type Line = [u8; 2048];
+// The room of a line. The longest has 1,226 bytes.
+pub const ROOM: usize = 2048;
+
+pub type Line = [u8; ROOM];
 
 // A space and a float, as the sixteen digits of its bits.
 pub fn put_float(line: &mut Line, to: usize, x: f64) -> usize {

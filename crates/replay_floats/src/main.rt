@@ -16,6 +16,7 @@ use case::next_case;
 use cells::replay_coefficients;
 use crosses::replay_cross;
 use line::Line;
+use line::ROOM;
 use operators::replay_operators;
 use pivots::replay_argmax;
 use pivots::replay_cutoff;
@@ -50,7 +51,7 @@ fn replay_case(line: &mut Line) -> bool {
 // A proved loop has to end, and nothing says that the input does. So the loop counts its turns
 // down, from a number that no run uses up.
 fn main() {
-    let mut line = [0u8; 2048];
+    let mut line = [0u8; ROOM];
     let mut turns = u64::MAX;
     while turns > 0 && replay_case(&mut line) {
         turns -= 1;

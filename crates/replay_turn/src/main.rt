@@ -14,8 +14,10 @@ use text::put_signed;
 use text::put_unknown;
 use turn::Reference;
 
-// A line has room for every answer: the longest has 402 bytes.
-type Line = [u8; 1024];
+// The room of a line. The longest has 402 bytes.
+const ROOM: usize = 1024;
+
+type Line = [u8; ROOM];
 
 // Kind 0: a reference vector.
 fn replay_reference(line: &mut Line, dimension: u8, number: u8) -> usize {
@@ -96,7 +98,7 @@ fn replay_records(line: &mut Line, input: &[u8]) {
 // has whole records, so none stands in two.
 fn replay_block() -> bool {
     let mut input = [0u8; 4096];
-    let mut line = [0u8; 1024];
+    let mut line = [0u8; ROOM];
     let n = io::read_full(STDIN_FILENO, &mut input);
     replay_records(&mut line, &input[..n]);
     n == 4096

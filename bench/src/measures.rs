@@ -34,7 +34,7 @@ pub const CALLS: [(&str, Make); 18] = [
     ("reference_vector", turns::reference_vector),
     ("combined_permutation", turns::combined),
     ("inverse_permutation", turns::inverse),
-    ("these four, for every vector and case", turns::whole),
+    ("the turn: all four, for every vector and case", turns::whole),
     ("generate_chebyshev_target_points", blocks::target_points),
     ("generate_chebyshev_source_points", blocks::source_points),
     ("get_approximation_coefficients", cells::values),

@@ -34,7 +34,7 @@ pub fn tables(all: &[Tables]) -> Result<(), String> {
     Ok(())
 }
 
-/// Every transfer vector has a case and a reference, and they do not hang on the order.
+/// Every transfer vector has a case and a reference, and they do not depend on the order.
 pub fn lookups(all: &[Tables]) -> Result<(), String> {
     for tables in all {
         let vectors = 7usize.pow(tables.dimension as u32);

@@ -2,7 +2,7 @@
 
 use crate::floats::{Header, Stream, shown};
 use crate::operators::true_nodes;
-use crate::random::Random;
+use crate::random::{Random, SMALL};
 use crate::special_cells;
 use crate::unrounded;
 use oracle::chebyshev::reach::{self, Cell, Coefficients};
@@ -15,9 +15,6 @@ pub const LONGEST: f64 = 1_073_741_824.0;
 
 /// Lengths that are no powers of two, so that most scaling rounds.
 const LENGTHS: [f64; 4] = [0.1, 3.7, 12_345.678_901_234_567, 600.0];
-
-/// Whole numbers so small that no sum of their products rounds.
-const SMALL: [f64; 7] = [-3.0, -2.0, -1.0, 0.0, 1.0, 2.0, 3.0];
 
 /// What a cell has before its floats are drawn.
 #[derive(Clone, Copy)]

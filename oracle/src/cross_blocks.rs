@@ -1,10 +1,7 @@
 //! Blocks whose sums round: smooth kernels on separated points, and what is drawn beside them.
 
 use crate::cross::Block;
-use crate::random::Random;
-
-/// Whole numbers so small that their inverses are most of what rounds.
-pub const SMALL: [f64; 7] = [-3.0, -2.0, -1.0, 0.0, 1.0, 2.0, 3.0];
+use crate::random::{Random, SMALL};
 
 /// Tolerances from coarse to none.
 pub const EPSILONS: [f64; 4] = [1e-3, 1e-6, 1e-12, 0.0];
@@ -77,7 +74,7 @@ pub fn drawn(random: &mut Random, epsilon: f64) -> Vec<Block> {
     blocks
 }
 
-/// The smallest blocks whose ranks hang on the order in which a product adds.
+/// The smallest blocks whose ranks depend on the order in which a product adds.
 ///
 /// In the first, the test after the second term is one of 18 against a quarter of 72, either of
 /// which may round. Blocks with fewer entries have at most two terms, and the rank of those depends on

@@ -1,7 +1,7 @@
 //! Blocks whose cross approximation is made with no rounding at all, and the check that it is so.
 //!
 //! Every operation of the text is done once more in exact numbers, which refuse any that rounds. So
-//! the answer does not hang on the order in which a product adds, nor on fusing. Not even the sign
+//! the answer does not depend on the order in which a product adds, nor on fusing. Not even the sign
 //! of a zero does: no entry is -0.0, so no residual is, whatever zero is taken from it.
 
 use crate::cross::{Block, Cross};

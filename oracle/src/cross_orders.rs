@@ -76,7 +76,7 @@ impl Figures {
     }
 }
 
-/// The smallest blocks whose ranks hang on the order.
+/// The smallest blocks whose ranks depend on the order.
 fn smallest() -> Result<Vec<String>, String> {
     let mut figures = Figures::default();
     for block in cross_blocks::order_matters() {
@@ -84,7 +84,7 @@ fn smallest() -> Result<Vec<String>, String> {
     }
     if figures.ranks.len() < figures.blocks {
         return Err(String::from(
-            "a rank that should hang on the order does not",
+            "a rank that should depend on the order does not",
         ));
     }
     Ok(figures.ranks)

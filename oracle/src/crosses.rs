@@ -1,10 +1,10 @@
 //! Builds the cases that ask for the cross approximation of a block.
 
 use crate::cross::{self, Block, Cross};
-use crate::cross_blocks::{self, EPSILONS, SMALL};
+use crate::cross_blocks::{self, EPSILONS};
 use crate::cross_exact;
 use crate::floats::{Header, Stream, shown};
-use crate::random::Random;
+use crate::random::{Random, SMALL};
 use crate::special_crosses;
 use oracle::notes::Stop;
 

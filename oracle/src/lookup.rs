@@ -44,7 +44,7 @@ fn answer(record: [u8; 4], all: &[Tables]) -> String {
     let dimension = usize::from(dimension);
     let vector = &entries[..dimension];
 
-    // Cases and references do not hang on the order, so the first order serves.
+    // Cases and references do not depend on the order, so the first order serves.
     let tables = all
         .iter()
         .find(|tables| tables.dimension == dimension)

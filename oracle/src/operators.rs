@@ -36,14 +36,17 @@ pub fn ask_all(stream: &mut Stream, random: &mut Random) {
         let polynomials = random.picks(order * order, &[-2.0, -1.0, 0.0, 1.0, 2.0]);
         ask(stream, order, &nodes, &polynomials);
     }
-    // One row of whole numbers, then a row each of negative zeros, an infinity and a NaN.
     let nodes = [-0.0, 1.0, f64::INFINITY, f64::from_bits(1)];
+    ask(stream, 4, &nodes, &special_rows());
+}
+
+/// Four by four, column after column: a row of whole numbers, then one each of negative zeros, an infinity and a NaN.
+pub fn special_rows() -> Vec<f64> {
     let rows = [
         [1.0, 2.0, -1.0, 2.0],
         [-0.0; 4],
         [1.0, f64::INFINITY, 1.0, 1.0],
         [1.0, 2.0, f64::NAN, 2.0],
     ];
-    let polynomials: Vec<f64> = (0..16).map(|place| rows[place % 4][place / 4]).collect();
-    ask(stream, 4, &nodes, &polynomials);
+    (0..16).map(|place| rows[place % 4][place / 4]).collect()
 }

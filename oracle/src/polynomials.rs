@@ -9,7 +9,7 @@ const POLYNOMIALS: u8 = 2;
 const ORDERS: std::ops::RangeInclusive<usize> = 1..=16;
 
 /// The most points that a call takes.
-const MOST_POINTS: usize = 4096;
+pub const MOST_POINTS: usize = 4096;
 
 /// Points at which a float rule may go another way: zeros, ends, subnormals, overflow, no number.
 const SPECIAL: [f64; 19] = [

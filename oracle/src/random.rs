@@ -1,5 +1,8 @@
 //! A generator of floats from a seed, so that every run with that seed asks the same.
 
+/// Whole numbers so small that few sums of their products round, and none of a few dozen.
+pub const SMALL: [f64; 7] = [-3.0, -2.0, -1.0, 0.0, 1.0, 2.0, 3.0];
+
 /// The generator splitmix64: a counter whose values are mixed.
 pub struct Random {
     state: u64,

@@ -18,7 +18,7 @@ pub struct Replay {
 }
 
 impl Replay {
-    /// Asks for every reference; they do not hang on the order, so the first of a dimension serves.
+    /// Asks for every reference; they do not depend on the order, so the first of a dimension serves.
     pub fn references(&mut self, all: &[Tables]) {
         for tables in all.iter().filter(|tables| tables.order == all[0].order) {
             for (number, vector) in tables.references.iter().enumerate() {

@@ -2,7 +2,7 @@
 
 use crate::coefficients::{LONGEST, SHORTEST, ask};
 use crate::floats::Stream;
-use crate::operators::true_nodes;
+use crate::operators::{special_rows, true_nodes};
 use oracle::chebyshev::reach::Cell;
 
 const INFINITY: f64 = f64::INFINITY;
@@ -63,20 +63,13 @@ fn points(stream: &mut Stream) {
 
 /// Special floats among the polynomials: alone, beside whole numbers, and a row of each sort.
 fn polynomials(stream: &mut Stream) {
-    let rows = [
-        [1.0, 2.0, -1.0, 2.0],
-        [-0.0; 4],
-        [1.0, INFINITY, 1.0, 1.0],
-        [1.0, 2.0, f64::NAN, 2.0],
-    ];
-    let by_column: Vec<f64> = (0..16).map(|place| rows[place % 4][place / 4]).collect();
     let mut sets: Vec<(usize, usize, Vec<f64>)> = Vec::new();
     for special in POLYNOMIALS {
         sets.push((3, 1, vec![special]));
         sets.push((2, 2, vec![special, 1.0, -1.0, -0.0]));
     }
     for dimension in 1..=3 {
-        sets.push((dimension, 4, by_column.clone()));
+        sets.push((dimension, 4, special_rows()));
     }
     for (dimension, order, node_polynomials) in sets {
         let centre = [1.0, -2.0, 0.5];

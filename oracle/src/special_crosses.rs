@@ -1,10 +1,10 @@
 //! Builds the blocks of special floats and of strange tolerances, among those that ask for crosses.
 
 use crate::cross::Block;
-use crate::cross_blocks::{SMALL, smooth};
+use crate::cross_blocks::smooth;
 use crate::crosses::ask;
 use crate::floats::Stream;
-use crate::random::Random;
+use crate::random::{Random, SMALL};
 
 /// Zeros of both signs, subnormals, huge floats, infinities and NaN.
 const SPECIAL: [f64; 12] = [

@@ -2,7 +2,7 @@
 
 use crate::floats::{Header, Stream, shown};
 use crate::operators;
-use crate::random::Random;
+use crate::random::{Random, SMALL};
 use oracle::chebyshev::reach::{self, Block};
 
 const TRANSFER: u8 = 4;
@@ -10,9 +10,6 @@ const TRANSFER: u8 = 4;
 const INFINITY: f64 = f64::INFINITY;
 const NAN: f64 = f64::NAN;
 const LEAST: f64 = f64::from_bits(1);
-
-/// Whole numbers so small that no sum of their products rounds.
-const SMALL: [f64; 7] = [-3.0, -2.0, -1.0, 0.0, 1.0, 2.0, 3.0];
 
 pub fn ask_transfer(stream: &mut Stream, block: &Block) {
     let header = Header {

@@ -1,7 +1,7 @@
 //! Checks that the coefficients of a cell are made with no rounding at all.
 //!
 //! Every operation of the Rust is done once more in exact numbers, which refuse any that rounds. So
-//! the answer does not hang on the order in which a product adds, nor on fusing: it is the one that
+//! the answer does not depend on the order in which a product adds, nor on fusing: it is the one that
 //! the Rust gives with the real matrix crate too, and not only with our stand-in for it. Only the
 //! sign of a zero is left open.
 

@@ -9,7 +9,7 @@ use Rattle.common.proofs.Determined.{coincide}
 use Rattle.turn.specs.declared.Vector.{Vector}
 use Rattle.turn.specs.Turned.{turned, returned}
 use Rattle.turn.specs.Tables.{tableCall}
-use Rattle.chebyshev.specs.Nodes.{nodesCall}
+use Rattle.nodes.specs.Nodes.{nodesCall}
 use Rattle.chebyshev.specs.Polynomials.{polynomialsCall}
 use Rattle.transfer.specs.Operators.{operatorsCall}
 use Rattle.transfer.specs.Tensor.{transferCall}

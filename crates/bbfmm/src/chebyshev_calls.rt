@@ -1,9 +1,9 @@
 // Chebyshev nodes, polynomials and their derivatives.
 ghost use mathlib.Core.Path.{_≡_};
-ghost use Rattle.chebyshev.specs.Nodes.{nodesCall};
+ghost use Rattle.nodes.specs.Nodes.{nodesCall};
 ghost use Rattle.chebyshev.specs.Polynomials.{polynomialsCall};
 use chebyshev::evaluate_chebyshev_polynomials;
-use chebyshev::generate_chebyshev_nodes;
+use nodes::generate_chebyshev_nodes;
 
 // The nodes of an order, rising.
 #[no_mangle]

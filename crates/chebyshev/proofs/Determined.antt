@@ -1,16 +1,11 @@
--- The public contracts determine the answer and the lent memory: two outcomes that one allows for an input coincide. Assumes nothing.
+-- The public contract determines the answer and the lent memory: two outcomes that it allows for an input coincide. Assumes nothing.
 use mathlib.Core.Path.{_≡_}
 use mathlib.Core.Bool.{Bool}
 use mathlib.Core.List.{List}
 use Prim.Native.Nat.{ℕ}
 use lib.Ieee.{Float}
 use Rattle.common.proofs.Determined.{coincide}
-use Rattle.chebyshev.specs.Nodes.{nodesCall}
 use Rattle.chebyshev.specs.Polynomials.{polynomialsCall}
-
-generate-chebyshev-nodes-determined : (order : ℕ) (nodes exit exit' : List Float) (r r' : ℕ) → (r, exit) ≡ nodesCall order nodes →
-    (r', exit') ≡ nodesCall order nodes → _≡_ {A = ℕ × List Float} (r, exit) (r', exit')
-generate-chebyshev-nodes-determined order nodes exit exit' r r' = coincide (r, exit) (r', exit') (nodesCall order nodes)
 
 evaluate-chebyshev-polynomials-determined : (order rows : ℕ) (with : Bool) (points tn dtn v v' d d' : List Float) (r r' : ℕ) →
     (r, v, d) ≡ polynomialsCall order rows with points tn dtn → (r', v', d') ≡ polynomialsCall order rows with points tn dtn →

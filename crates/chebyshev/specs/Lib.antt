@@ -1,4 +1,2 @@
-pub mod Nodes
-pub mod Rule
 pub mod Polynomials
 pub mod Working

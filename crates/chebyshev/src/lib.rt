@@ -1,6 +1,4 @@
-// Chebyshev nodes, polynomials and their derivatives.
-mod nodes;
+// Chebyshev polynomials and their derivatives.
 mod polynomials;
 
-pub use nodes::generate_chebyshev_nodes;
 pub use polynomials::evaluate_chebyshev_polynomials;

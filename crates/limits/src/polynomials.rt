@@ -18,7 +18,7 @@ pub fn lend_nodes(counts: &mut [u64; 14], k: usize) {
 
 fn call_nodes(counts: &mut [u64; 14], order: usize, nodes: &mut [f64]) {
     let expected = nodes_expected(order, nodes.len());
-    let number = chebyshev::generate_chebyshev_nodes(order, nodes);
+    let number = nodes::generate_chebyshev_nodes(order, nodes);
     note(counts, expected, number, are_floats(nodes));
 }
 

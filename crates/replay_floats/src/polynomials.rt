@@ -19,7 +19,7 @@ pub fn replay_nodes(line: &mut Line, order: usize) -> usize {
 }
 
 fn put_nodes(line: &mut Line, order: usize, nodes: &mut [f64]) -> usize {
-    let refusal = chebyshev::generate_chebyshev_nodes(order, nodes);
+    let refusal = nodes::generate_chebyshev_nodes(order, nodes);
     let after_word = put(line, 0, b"nodes");
     let after_order = put_number(line, after_word, order as u64);
     let to = put_byte(line, after_order, b':');

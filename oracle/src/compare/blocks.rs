@@ -41,7 +41,7 @@ fn low_rank(random: &mut Random, shape: (usize, usize), epsilon: f64) -> Block {
 }
 
 /// Blocks that show one thing each: pivots near the least, rows that are read twice, zeros, and ranks
-/// that hang on the order of adding.
+/// that depend on the order of adding.
 fn fixed(random: &mut Random, epsilon: f64) -> Block {
     let least = f64::EPSILON;
     let pivots = [least, -least, least.next_down(), -least.next_up()];

@@ -4,15 +4,13 @@ use super::draw;
 use crate::choices::{ask_argmax, ask_cutoff};
 use crate::floats::Stream;
 use crate::points::{ask_sources, ask_targets};
-use crate::polynomials::ask_polynomials;
+use crate::polynomials::{MOST_POINTS, ask_polynomials};
 use crate::random::Random;
 use crate::transfers::ask_transfer;
 use crate::{coefficients, operators};
 use oracle::chebyshev::reach::{Block, Cell};
 
 /// The most points of a call, the most coefficients that the replay has room for, and the most
-/// entries of a list.
-const MOST_POINTS: usize = 4096;
 const MOST_VALUES: usize = 65536;
 const MOST_ENTRIES: usize = 1024;
 

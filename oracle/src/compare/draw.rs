@@ -2,10 +2,7 @@
 
 use crate::coefficients::{LONGEST, SHORTEST};
 use crate::operators::true_nodes;
-use crate::random::Random;
-
-/// Whole numbers so small that few sums of their products round.
-const SMALL: [f64; 7] = [-3.0, -2.0, -1.0, 0.0, 1.0, 2.0, 3.0];
+use crate::random::{Random, SMALL};
 
 /// Zeros of both signs, subnormals, floats near the least pivot, huge floats, infinities and NaN.
 const SPECIAL: [f64; 20] = [

@@ -3,7 +3,7 @@ ghost use mathlib.Core.Path.{_≡_};
 ghost use Prim.Native.Nat.{_≤_};
 ghost use lib.ListN.{length};
 ghost use Rattle.common.specs.Lists.{tabulate};
-ghost use Rattle.chebyshev.specs.Nodes.{node, nodesNumber, nodesCall};
+ghost use Rattle.nodes.specs.Nodes.{node, nodesNumber, nodesCall};
 
 // The nodes of each order, rising.
 const NODES_1: [f64; 1] = [6.123233995736766e-17];

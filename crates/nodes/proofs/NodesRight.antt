@@ -15,8 +15,8 @@ use Rattle.common.specs.Lists.{tabulate, stretch}
 use Rattle.common.specs.Tests.{each}
 use Rattle.common.proofs.Fill.{getD-tabulate, tabulate-cong, fill-all}
 use Rattle.common.proofs.Tests.{each-at}
-use Rattle.chebyshev.specs.Nodes.{entry, node}
-use Rattle.chebyshev.specs.Rule.{gap, margin, scaled, whole, chebyshev, opposite, place, Node}
+use Rattle.nodes.specs.Nodes.{entry, node}
+use Rattle.nodes.specs.Rule.{gap, margin, scaled, whole, chebyshev, opposite, place, Node}
 
 -- THE TEST of one node: it is exact, the next is more than 1/64 above it, and T_p crosses zero there
 exactly : (p i : ℕ) → Bool

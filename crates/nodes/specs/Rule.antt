@@ -6,7 +6,7 @@ use lib.Dec.{T, eqb}
 use lib.IntN.{ℤ, pos, negsuc, negℤ, _+ℤ_, _-ℤ_, _*ℤ_}
 use lib.Signed.{_<ℤ_}
 use lib.Ieee.{Float, nan, inf, fin, up, down}
-use Rattle.chebyshev.specs.Nodes.{node}
+use Rattle.nodes.specs.Nodes.{node}
 
 abbrev pub one : ℤ
 one = pos (2 ^ 106)

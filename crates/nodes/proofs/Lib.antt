@@ -1,0 +1,3 @@
+pub mod NodesRight
+pub mod Calls
+pub mod Determined

@@ -183,3 +183,33 @@ fn the_largest_block_is_ruled() {
     }
     tally.reached("the largest block", &[0]);
 }
+
+/// As docs/DECISIONS.md says: over the upper and the lower half of each float's bits.
+fn checksum(list: &[f64]) -> u64 {
+    list.iter()
+        .flat_map(|float| [float.to_bits() >> 32, float.to_bits() & 0xffff_ffff])
+        .fold(0, |sum, half| (sum * 65_599 + half + 1) % 4_294_967_291)
+}
+
+/// What `oracle/run large` prints of a block too large to store: the entry is the level of the lower
+/// of two remainders.
+#[test]
+fn the_large_block_is_answered_as_by_the_rust() {
+    const LEVELS: [f64; 5] = [1.0, -1.0, 3.0, -5.0, 11.0];
+    let level = |place: usize| LEVELS[(place % 1_024 % 5).min(place / 1_024 % 5)];
+    let samples: Vec<f64> = (0..1_024 * 1_024).map(level).collect();
+    let block = Block {
+        rows: 1_024,
+        columns: 1_024,
+        samples: &samples,
+    };
+    let mut floats = [1_024 * 1_024, 1_024 * 1_024, 1_024, 1_024].map(|size| vec![0.0; size]);
+    let mut lists = [vec![0; 1_024], vec![0; 1_024]];
+    let report = call(block, 1.0 / 1_048_576.0, &mut floats, &mut lists).expect("all lengths fit");
+    assert_eq!((report.rank, report.stop.number()), (5, 2));
+    assert_eq!(report.estimate, 10_736_176.0);
+    assert_eq!(lists[0][..report.rows_read], [0, 1, 2, 3, 4, 9]);
+    assert_eq!(lists[1][..report.rank], [0, 1, 2, 3, 4]);
+    assert_eq!(checksum(&floats[0][..5 * 1_024]), 697_652_880);
+    assert_eq!(checksum(&floats[1][..5 * 1_024]), 768_311_761);
+}

@@ -98,21 +98,21 @@ pub fn count(all: &[Tables], replay: &Replay, lookup: &Lookup) {
     let tables: usize = all.iter().map(|tables| tables.combined.len()).sum();
     let records = replay.input.len() / 4;
     println!(
-        "replay_turn: {records} records ({} references, {tables} combined and {tables} inverse \
+        "turn: {records} records ({} references, {tables} combined and {tables} inverse \
          tables), {} lines",
         records - 2 * tables,
         replay.answers.lines().count()
     );
     for file in &lookup.files {
         println!(
-            "lookup_cases {}: {} records and {} bytes over, {} lines",
+            "lookup {}: {} records and {} bytes over, {} lines",
             file.name,
             file.content.len() / 4,
             file.content.len() % 4,
             file.answers.lines().count()
         );
     }
-    println!("lookup_cases: {} lines", lookup.answers().lines().count());
+    println!("lookup: {} lines", lookup.answers().lines().count());
     println!("checked: {tables} combined tables are permutations and their inverses undo them");
     println!("checked: each vector has a case and a reference, the same for every order");
     println!("checked: the sample agrees");

@@ -44,7 +44,7 @@ fn on_floats(
             starts.push(stream.input.len());
             ask(&mut stream)?;
         }
-        let found = programs.run("replay_floats", &stream.input)?;
+        let found = programs.run("floats", &stream.input)?;
         let batch = Batch {
             input: &stream.input,
             starts: &starts,
@@ -64,7 +64,7 @@ fn on_tables(programs: &Programs, replay: &Replay) -> Result<Tally, String> {
         starts: &starts,
         answers: &replay.answers,
     };
-    tally.add(batch, &programs.run("replay_turn", &replay.input)?)?;
+    tally.add(batch, &programs.run("turn", &replay.input)?)?;
     Ok(tally)
 }
 
@@ -133,7 +133,7 @@ fn run(root: &Path, words: &[OsString]) -> Result<usize, String> {
         return Err(String::from("give a seed, a count and a folder"));
     };
     let programs = Programs {
-        folder: root.join("target/bin"),
+        program: root.join("target/replay/replay"),
         room: room.into(),
         before: before.to_vec(),
     };

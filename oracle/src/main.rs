@@ -56,33 +56,40 @@ fn write(path: &Path, content: &[u8]) -> Result<(), String> {
     fs::write(path, content).map_err(fault)
 }
 
-/// Writes what a program is run on, and what it has to answer.
-fn write_run(root: &Path, name: &str, input: &[u8], answers: &str) -> Result<(), String> {
-    let folder = root.join("crates").join(name);
-    write(&folder.join("stdin"), input)?;
-    write(&folder.join("stdout"), answers.as_bytes())
+/// Writes the cases of a layer, and what the Rust answers to them.
+fn write_layer(root: &Path, layer: &str, input: &[u8], answers: &str) -> Result<(), String> {
+    let folder = root.join("tests/replay");
+    write(&folder.join(format!("{layer}.in")), input)?;
+    write(&folder.join(format!("{layer}.out")), answers.as_bytes())
 }
 
 fn write_all(root: &Path, replay: &Replay, lookup: &Lookup) -> Result<(), String> {
-    write_run(root, "replay_turn", &replay.input, &replay.answers)?;
+    write_layer(root, "turn", &replay.input, &replay.answers)?;
 
-    let folder = root.join("crates/lookup_cases");
+    let folder = root.join("tests/lookup");
     for file in &lookup.files {
-        write(&folder.join("data").join(file.name), &file.content)?;
+        write(&folder.join("cases").join(file.name), &file.content)?;
     }
-    write(&folder.join("stdout"), lookup.answers().as_bytes())
+    write(&folder.join("answers"), lookup.answers().as_bytes())
 }
 
-/// The replays on floats, one after the other.
-fn floats() -> Result<Stream, String> {
-    let mut stream = Stream::default();
-    polynomials::ask_all(&mut stream);
-    transfers::ask_all(&mut stream);
-    points::ask_all(&mut stream);
-    coefficients::ask_all(&mut stream);
-    choices::ask_all(&mut stream);
-    crosses::ask_all(&mut stream)?;
-    Ok(stream)
+/// The replays on floats, a stream for each layer.
+fn floats() -> Result<Vec<(&'static str, Stream)>, String> {
+    fn asked(ask: impl FnOnce(&mut Stream)) -> Stream {
+        let mut stream = Stream::default();
+        ask(&mut stream);
+        stream
+    }
+    let mut cross = Stream::default();
+    crosses::ask_all(&mut cross)?;
+    Ok(vec![
+        ("chebyshev", asked(polynomials::ask_all)),
+        ("transfer", asked(transfers::ask_all)),
+        ("points", asked(points::ask_all)),
+        ("coefficients", asked(coefficients::ask_all)),
+        ("choices", asked(choices::ask_all)),
+        ("aca", cross),
+    ])
 }
 
 /// What is only printed: figures, and the answer of a large block if the first word asks for it.
@@ -110,8 +117,10 @@ fn store(root: &Path, words: &[OsString]) -> Result<(), String> {
     let findings = findings(words)?;
     write_all(root, &replay, &lookup)?;
     check::count(&tables, &replay, &lookup);
-    write_run(root, "replay_floats", &floats.input, &floats.answers)?;
-    floats.count("replay_floats");
+    for (layer, stream) in &floats {
+        write_layer(root, layer, &stream.input, &stream.answers)?;
+        stream.count(layer);
+    }
     findings.iter().for_each(|line| println!("{line}"));
     Ok(())
 }

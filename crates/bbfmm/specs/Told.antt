@@ -8,9 +8,9 @@ use lib.IntN.{ℤ}
 use lib.ListN.{length}
 use Rattle.common.specs.Refusals.{left}
 use Rattle.turn.specs.declared.Vector.{Vector}
-use Rattle.turn.specs.declared.Entry.{Entry}
+use Rattle.turn.specs.declared.Known.{Known}
 use Rattle.turn.specs.Vectors.{sizes}
-use Rattle.turn.specs.LookUps.{entries, lookUpNumber, entryOf, referenceNumber, referenceAt}
+use Rattle.turn.specs.LookUps.{entries, lookUpNumber, knownOf, referenceNumber, referenceAt}
 use Rattle.lines.specs.Largest.{argmax, counts}
 use Rattle.choices.specs.Argmax.{argmaxNumber}
 use Rattle.choices.specs.Cutoff.{cutoff, cutoffNumber}
@@ -20,11 +20,11 @@ use Rattle.aca.specs.declared.Report.{Report}
 use Rattle.bbfmm.specs.Answers.{withLength, told}
 
 -- index, case and reference number, and 1 for near, else 0
-abbrev pub entryValues : Entry → List ℕ
-entryValues e = e .index ∷ e .case ∷ e .reference ∷ cond (e .near) 1 0 ∷ []
+abbrev pub knownValues : Known → List ℕ
+knownValues k = k .index ∷ k .case ∷ k .reference ∷ cond (k .near) 1 0 ∷ []
 
 unfoldable pub lookUpTold : (D : ℕ) → Vector → (answer : List ℕ) → ℕ × List ℕ
-lookUpTold D v = told (lookUpNumber D (sizes (entries v))) (entryValues (entryOf D (entries v)))
+lookUpTold D v = told (lookUpNumber D (sizes (entries v))) (knownValues (knownOf D (entries v)))
 
 abbrev pub vectorValues : Vector → List ℤ
 vectorValues v = v .0 ∷ v .1 ∷ v .2 ∷ []

@@ -27,12 +27,12 @@ pub extern "C" fn bbfmm_look_up(
     let found = look_up(dimension, Vector(x, y, z));
     match found {
         LookUp::Refused(number) => with_length(number, is_fit),
-        LookUp::Found(entry) => {
+        LookUp::Found(known) => {
             if is_fit {
-                answer[0] = entry.index;
-                answer[1] = entry.case;
-                answer[2] = entry.reference;
-                answer[3] = entry.near as usize;
+                answer[0] = known.index;
+                answer[1] = known.case;
+                answer[2] = known.reference;
+                answer[3] = known.near as usize;
                 return 0;
             }
             common::WRONG_LENGTH

@@ -6,7 +6,7 @@ use mathlib.Core.List.{List, [], _∷_}
 use lib.IntN.{pos, negsuc}
 use lib.Ieee.{Float, neg, ofBits, binary64}
 use Rattle.common.specs.Floats.{float, zero₆₄, one₆₄, two₆₄, half₆₄}
-use Rattle.turn.specs.LookUps.{lookUp}
+use Rattle.turn.specs.LookUps.{toldLookUp, lookUp}
 use Rattle.turn.specs.Tables.{tableCall}
 use Rattle.turn.specs.Turned.{turned, returned}
 use Rattle.turn.specs.declared.LookUp.the-variants as look
@@ -39,13 +39,13 @@ lent x i = memory (four x x x x) (four x x x x) (two i i) (two i i) (two x x) (t
 
 pub record Fixed : Type 0 where
   -- D=3 (0,-2,1): index 158, case 33, reference 1
-  pub vector-158 : lookUp 3 (pos 0, negsuc 1, pos 1) ≡ look.Found (record { index = 158; case = 33; reference = 1; near = false })
+  pub vector-158 : lookUp 3 (pos 0, negsuc 1, pos 1) ≡ toldLookUp (look.Found (record { index = 158; case = 33; reference = 1; near = false }))
   -- D=1 (-3): 0, 0, 1
-  pub vector-0 : lookUp 1 (negsuc 2, pos 0, pos 0) ≡ look.Found (record { index = 0; case = 0; reference = 1; near = false })
+  pub vector-0 : lookUp 1 (negsuc 2, pos 0, pos 0) ≡ toldLookUp (look.Found (record { index = 0; case = 0; reference = 1; near = false }))
   -- D=2 (3,3): 48, 6, 6
-  pub vector-48 : lookUp 2 (pos 3, pos 3, pos 0) ≡ look.Found (record { index = 48; case = 6; reference = 6; near = false })
+  pub vector-48 : lookUp 2 (pos 3, pos 3, pos 0) ≡ toldLookUp (look.Found (record { index = 48; case = 6; reference = 6; near = false }))
   -- D=2 (1,-1): 30, 4, 0, near
-  pub vector-30 : lookUp 2 (pos 1, negsuc 0, pos 0) ≡ look.Found (record { index = 30; case = 4; reference = 0; near = true })
+  pub vector-30 : lookUp 2 (pos 1, negsuc 0, pos 0) ≡ toldLookUp (look.Found (record { index = 30; case = 4; reference = 0; near = true }))
   -- D=2, p=2, case 3: table 2,0,3,1; inverse 1,3,0,2
   pub table : (i : ℕ) → tableCall 2 2 3 (turned 2 2 3) (four i i i i) ≡ (0, four 2 0 3 1)
   pub inverse : (i : ℕ) → tableCall 2 2 3 (returned 2 2 3) (four i i i i) ≡ (0, four 1 3 0 2)

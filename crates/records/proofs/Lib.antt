@@ -1,4 +1,3 @@
-mod Numbers
-mod Writing
-mod Lines
-mod Answers
+pub mod SignedBytes
+pub mod Lines
+pub mod Answers

@@ -1,9 +1,21 @@
-// A line of text that is put together in lent memory, and printed. Each function that puts something answers the place
-// past it. What has no room is left out.
-use libc::STDOUT_FILENO;
-ghost use Rattle.io.specs.Counts.{Counts};
+// Text that is put together in lent memory. Each function that puts something answers the place past it; what has no room is
+// left out, and the place is then the line's end.
+ghost use mathlib.Core.Path.{_≡_};
+ghost use mathlib.Core.List.{[], _∷_, _++_};
+ghost use Prim.Native.Nat.{_-_};
+ghost use Rattle.text.specs.Text.{decimal, spaced, refusedWord, unknownWord, Ended};
+ghost use Rattle.text.specs.Text.{put as Text·put};
 
-pub fn put_byte(line: &mut [u8], to: usize, b: u8) -> usize {
+// How many bytes of a line lie from a place on.
+fn room_of(length: usize, to: usize) -> usize
+    ensures { λ r. ⌜ r ≡ length - to ⌝ }
+{
+    if to < length { length - to } else { 0 }
+}
+
+pub fn put_byte(line: &mut [u8], to: usize, b: u8) -> usize
+    ensures { λ r. ⌜ (r, now (line .exit)) ≡ Text·put to (b ∷ []) (now (line .entry)) ⌝ }
+{
     if to < line.len() {
         line[to] = b;
         return to + 1;
@@ -11,69 +23,56 @@ pub fn put_byte(line: &mut [u8], to: usize, b: u8) -> usize {
     to
 }
 
-pub fn put(line: &mut [u8], to: usize, word: &[u8]) -> usize {
-    let mut next = to;
+pub fn put(line: &mut [u8], to: usize, word: &[u8]) -> usize
+    ensures { λ r. ⌜ (r, now (line .exit)) ≡ Text·put to (now (word .entry)) (now (line .entry)) ⌝ }
+{
+    let count = common::least(word.len(), room_of(line.len(), to));
     let mut i = 0;
-    while i < word.len() {
-        next = put_byte(line, next, word[i]);
+    while i < count {
+        line[to + i] = word[i];
         i += 1;
     }
-    next
+    to + count
 }
 
-fn put_digits(line: &mut [u8], to: usize, n: u64) -> usize {
+// A number in decimal.
+pub fn put_number(line: &mut [u8], to: usize, n: u64) -> usize
+    ensures { λ r. ⌜ (r, now (line .exit)) ≡ Text·put to (decimal n) (now (line .entry)) ⌝ }
+{
     let mut digits = [0u8; 20];
     let count = io::decimal(n, &mut digits);
     put(line, to, &digits[..count])
 }
 
 // A space and a number.
-pub fn put_number(line: &mut [u8], to: usize, n: u64) -> usize {
+pub fn put_next(line: &mut [u8], to: usize, n: u64) -> usize
+    ensures { λ r. ⌜ (r, now (line .exit)) ≡ Text·put to (spaced n) (now (line .entry)) ⌝ }
+{
     let after_space = put_byte(line, to, b' ');
-    put_digits(line, after_space, n)
-}
-
-// A space and a signed number.
-pub fn put_signed(line: &mut [u8], to: usize, n: i32) -> usize {
-    if n < 0 {
-        let after_sign = put(line, to, b" -");
-        return put_digits(line, after_sign, magnitude(n));
-    }
-    put_number(line, to, magnitude(n))
-}
-
-// A number without its sign. It is widened before its sign is changed, since the least i32 has no opposite among the
-// i32.
-fn magnitude(n: i32) -> u64 {
-    if n < 0 {
-        (0 - n as i64) as u64
-    } else {
-        n as u64
-    }
+    put_number(line, after_space, n)
 }
 
 // The number that a call refused with.
-pub fn put_refusal(line: &mut [u8], to: usize, refusal: u8) -> usize {
+pub fn put_refusal(line: &mut [u8], to: usize, refusal: u8) -> usize
+    ensures { λ r. ⌜ (r, now (line .exit)) ≡ Text·put to (refusedWord ++ spaced refusal) (now (line .entry)) ⌝ }
+{
     let after_word = put(line, to, b" refused");
-    put_number(line, after_word, refusal as u64)
+    put_next(line, after_word, refusal as u64)
 }
 
 // The line of a record or a case whose kind a program does not know.
-pub fn put_unknown(line: &mut [u8], kind: u8) -> usize {
-    let after_word = put(line, 0, b"unknown kind");
-    put_number(line, after_word, kind as u64)
-}
-
-// Ends the line, of which the next place is `to`, and writes it to standard output.
-pub fn print(line: &mut [u8], to: usize) -> bool {
-    let after_end = put_byte(line, to, b'\n');
-    let length = ended(line, after_end);
-    io::write_all(STDOUT_FILENO, &line[..length])
-}
-
-// How many bytes the line has, of which the next place is `to`.
-fn ended(line: &[u8], to: usize) -> usize
-    ensures { λ r. ⌜ Counts r (now (line .entry)) ⌝ }
+pub fn put_unknown(line: &mut [u8], kind: u8) -> usize
+    ensures { λ r. ⌜ (r, now (line .exit)) ≡ Text·put 0 (unknownWord ++ spaced kind) (now (line .entry)) ⌝ }
 {
-    if to < line.len() { to } else { line.len() }
+    let after_word = put(line, 0, b"unknown kind");
+    put_next(line, after_word, kind as u64)
+}
+
+// Ends the line, of which the next place is `to`, and answers how many bytes it has.
+pub fn end_line(line: &mut [u8], to: usize) -> usize
+    ensures { λ r. ⌜ Ended to (now (line .entry)) (now (line .exit)) r ⌝ }
+{
+    let length = line.len();
+    let next = put_byte(line, to, b'\n');
+    common::least(next, length)
 }

@@ -1,28 +1,28 @@
-//! Runs our programs on cases, through files in a folder that the caller removes.
+//! Runs our replay on cases, through files in a folder that the caller removes.
 
 use std::ffi::OsString;
 use std::fs::{self, File};
 use std::path::PathBuf;
 use std::process::Command;
 
-/// Where the programs are, the folder for files, and the words that a program is run with: a loader,
-/// and on machines other than its own an emulator.
+/// The program, the folder for files, and the words that it is run with: a loader, and on machines
+/// other than its own an emulator.
 pub struct Programs {
-    pub folder: PathBuf,
+    pub program: PathBuf,
     pub room: PathBuf,
     pub before: Vec<OsString>,
 }
 
 impl Programs {
     fn command(&self, name: &str) -> Command {
-        let program = self.folder.join(name).into_os_string();
+        let program = self.program.clone().into_os_string();
         let mut words = self.before.iter().chain([&program]);
         let mut command = Command::new(words.next().expect("a program at least"));
-        command.args(words);
+        command.args(words).arg(name);
         command
     }
 
-    /// What a program writes, given this input.
+    /// What the program writes for this sort of cases.
     pub fn run(&self, name: &str, input: &[u8]) -> Result<String, String> {
         let fault = |error| format!("cannot run {name}: {error}");
         let (given, wrote) = (self.room.join("given"), self.room.join("wrote"));

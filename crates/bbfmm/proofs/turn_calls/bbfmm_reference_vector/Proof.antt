@@ -1,7 +1,7 @@
 -- `bbfmm::turn_calls::bbfmm_reference_vector` meets its contract: each arm by what its variant says, and by the answer's length. Assumes nothing.
 use borrow.Author.Needs.{needs, sfits-of}
 use borrow.Author.Tests.{eqb-true}
-use mathlib.Core.Path.{_≡_, sym, _∙_}
+use mathlib.Core.Path.{_≡_, _∙_}
 use native.Mathlib.Omega.{arith}
 use lib.ListN.{length, length-set}
 use mir.Facts.{toZ-ofZ}
@@ -45,7 +45,7 @@ returns c =
     let m = c .before .before .before .before .before in
     let a = m .before .before .before .args in
     let g = c .before .before .struct-told .given in
-    let found = reference-found (a .dimension) (a .number) (m .found2 .given .0 .0) (sym (m .found2 .given .1) ∙ m .before .before .reference-vector .ensures) in
+    let found = reference-found (a .dimension) (a .number) _ (m .before .before .reference-vector .ensures) (m .found2 .given .0 .0) (m .found2 .given .1) in
     told-done _ (a .vector .now) _ _ (found .0) (c .before .before .before .if1 .taken)
     (stored-three (a .vector .now) _ _ _ (fitting c) ∙ rw (toZ-ofZ (sfits-of (g .0 .1)), toZ-ofZ (sfits-of (g .1 .0 .1)), toZ-ofZ (sfits-of (g .1 .1 .0 .1)), found .1))
 
@@ -54,7 +54,7 @@ unfolding referenceTold
 returns-2 c =
     let m = c .before .before in
     let a = m .before .before .before .args in
-    let refused = reference-refused (a .dimension) (a .number) _ (sym (m .found .given .1) ∙ m .before .before .reference-vector .ensures) in
+    let refused = reference-refused (a .dimension) (a .number) _ (m .before .before .reference-vector .ensures) _ (m .found .given .1) in
     told-refused _ (a .vector .now) _ _ (c .with-length .ensures ∙ rw (refused .0)) (refused .1)
 
 returns-3 : tie.Need-returns-3
@@ -62,7 +62,7 @@ unfolding referenceTold
 returns-3 c =
     let m = c .before .before in
     let a = m .before .before .before .args in
-    let found = reference-found (a .dimension) (a .number) _ (sym (m .found2 .given .1) ∙ m .before .before .reference-vector .ensures) in
+    let found = reference-found (a .dimension) (a .number) _ (m .before .before .reference-vector .ensures) _ (m .found2 .given .1) in
     told-unfit _ (a .vector .now) _ (found .0) (c .if1 .left)
 
 pub bbfmm-reference-vector-spec : {M : Type 1} → statement M

@@ -13,11 +13,11 @@ use Rattle.common.specs.Floats.{times}
 use Rattle.common.specs.Refusals.{left}
 use Rattle.common.proofs.Cases.{equal-and}
 use Rattle.common.proofs.Limits.{left-done, left-refused, passed}
-use Rattle.lines.specs.Largest.{counts}
-use Rattle.steps.specs.Crosses.{unread}
-use Rattle.steps.specs.Memories.{Memory, laid, blockOf}
+use Rattle.aca_lines.specs.Largest.{counts}
+use Rattle.aca_steps.specs.Crosses.{unread}
+use Rattle.aca_steps.specs.Memories.{Memory, laid, blockOf}
 use Rattle.aca.specs.Runs.{run, begin, report, lengths, fits, acaNumber, start, approximation, answered, call, acaCall}
-use Rattle.steps.specs.Standing.{Marks}
+use Rattle.aca_steps.specs.Standing.{Marks}
 use Rattle.aca.specs.Working.{Begun, ran, Ran}
 use Rattle.aca.specs.declared.Report.{Report}
 use Rattle.aca.specs.declared.Approximation.the-variants.{Refused, Done}
@@ -85,8 +85,8 @@ module _ (m n : ℕ) (a : List Float) (epsilon : Float) (t : Memory) (number : �
                 tall = rw (f .column-long) (f .tall);
                 wide = rw (f .row-long) (f .wide);
                 block = rw (f .row-long, f .column-long, f .samples-long) (omega arith);
-                left = rw (f .rows-long, f .column-long, f .us-long) (omega arith);
-                right = rw (f .rows-long, f .row-long, f .vs-long) (omega arith);
+                u-room = rw (f .rows-long, f .column-long, f .us-long) (omega arith);
+                v-room = rw (f .rows-long, f .row-long, f .vs-long) (omega arith);
                 lists = f .columns-long ∙ sym (f .rows-long);
               };
           short = rw (f .rows-long, f .column-long) (min-le-left m n);

@@ -4,7 +4,7 @@ use mathlib.Core.List.{List}
 use Prim.Native.Nat.{ℕ}
 use lib.Ieee.{Float}
 use Rattle.common.proofs.Determined.{coincide}
-use Rattle.steps.specs.Memories.{Memory}
+use Rattle.aca_steps.specs.Memories.{Memory}
 use Rattle.aca.specs.Runs.{Call, call, acaCall}
 use Rattle.aca.specs.declared.Approximation.{Approximation}
 

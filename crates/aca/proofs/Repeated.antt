@@ -7,22 +7,22 @@ use native.Mathlib.Omega.{arith}
 use lib.Ieee.{Float, nan, lt, le}
 use lib.ListN.{length, getD, take, length-append}
 use lib.Seq.{length-take-le}
-use Rattle.common.specs.Floats.{times}
+use Rattle.common.specs.Floats.{times, size}
 use Rattle.common.proofs.Cases.{by-bool}
 use Rattle.common.proofs.Fill.{length-tabulate}
 use Rattle.common.proofs.Matrices.{next-column, column-fits}
-use Rattle.lines.specs.Largest.{size, argmax}
-use Rattle.lines.specs.Lines.{residual, scaled, norm, cross}
-use Rattle.steps.specs.Crosses.{usedUp, Block, Found, unread, rowRead, columnRead, grown, tiny₆₄, judged, Outcome, stored, accepted, tried, step}
-use Rattle.steps.specs.Memories.{Memory, laid, blockOf}
-use Rattle.aca.specs.Runs.{Finish, finish, after, run, begin, reported, report, start}
-use Rattle.steps.specs.Standing.{standing, Marks, Ready, made, Stepped}
+use Rattle.aca_lines.specs.Largest.{argmax}
+use Rattle.aca_lines.specs.Lines.{residual, multiplied, norm, cross}
+use Rattle.aca_steps.specs.Crosses.{usedUp, Block, Found, unread, rowRead, columnRead, grown, tiny₆₄, judged, Outcome, stored, accepted, tried, step}
+use Rattle.aca_steps.specs.Memories.{Memory, laid, blockOf}
+use Rattle.aca.specs.Runs.{Finish, finish, followed, run, begin, reported, report, start}
+use Rattle.aca_steps.specs.Standing.{standing, Marks, Ready, made, Stepped}
 use Rattle.aca.specs.Working.{Begun, ran, Ran}
-use Rattle.steps.specs.declared.Progress.{Progress}
-use Rattle.steps.specs.declared.Step.{Step}
-use Rattle.steps.specs.declared.Step.the-variants.{More, Stop}
-use Rattle.steps.proofs.Fronts.{upon-upon, take-upon}
-use Rattle.steps.proofs.Marked.{argmax-in}
+use Rattle.aca_steps.specs.declared.Progress.{Progress}
+use Rattle.aca_steps.specs.declared.Step.{Step}
+use Rattle.aca_steps.specs.declared.Step.the-variants.{More, Stop}
+use Rattle.aca_steps.proofs.Fronts.{upon-upon, take-upon}
+use Rattle.aca_steps.proofs.Marked.{argmax-in}
 
 -- HOW MUCH A STEP FINDS
 
@@ -67,7 +67,7 @@ module _ (b : Block) (tolerance : Float) (s : Progress) (f : Found) (some : 0 < 
     column-long = length-tabulate _ _
 
     row-long : length (c .row) ≡ b .columns
-    unfolding columnRead rowRead residual scaled
+    unfolding columnRead rowRead residual multiplied
     row-long = length-tabulate _ _ ∙ length-tabulate _ _
 
     accepted-more : Found-more k (b .rows) (b .columns) (accepted tolerance s c)
@@ -210,8 +210,8 @@ module _ (samples : List Float) (tolerance : Float) (t₀ : Memory) where
                     tall = rw (a .column-same) (z .tall);
                     wide = rw (a .row-same) (z .wide);
                     block = rw (a .column-same, a .row-same) (z .block);
-                    left = rw (a .column-same, a .rows-same, a .us-same) (z .left);
-                    right = rw (a .row-same, a .rows-same, a .vs-same) (z .right);
+                    u-room = rw (a .column-same, a .rows-same, a .us-same) (z .u-room);
+                    v-room = rw (a .row-same, a .rows-same, a .vs-same) (z .v-room);
                     lists = a .columns-same ∙ z .lists ∙ sym (a .rows-same);
                   };
               term = omega (arith, a .rows-same);
@@ -225,7 +225,7 @@ module _ (samples : List Float) (tolerance : Float) (t₀ : Memory) where
         abbrev o : Outcome
         o = step block tolerance s (standing k t)
 
-        next : after (o .answer) (o .found) (run (most - (k + 1)) block tolerance) ≡ whole
+        next : followed (o .answer) (o .found) (run (most - (k + 1)) block tolerance) ≡ whole
         unfolding run
         next = let one : most - k ≡ suc (most - (k + 1)) = omega arith in rw one at (g .rest)
 
@@ -236,8 +236,8 @@ module _ (samples : List Float) (tolerance : Float) (t₀ : Memory) where
             let left = column-fits k most (length (t₀ .column)) _ l refl in
             let right = column-fits k most (length (t₀ .row)) _ l refl in
             record {
-              us-long = rw (a .column-same) (length-take-le _ (t .us) (omega (arith, a .us-same, z .left)));
-              vs-long = rw (a .row-same) (length-take-le _ (t .vs) (omega (arith, a .vs-same, z .right)));
+              us-long = rw (a .column-same) (length-take-le _ (t .us) (omega (arith, a .us-same, z .u-room)));
+              vs-long = rw (a .row-same) (length-take-le _ (t .vs) (omega (arith, a .vs-same, z .v-room)));
               columns-long = length-take-le k (t .«column-list») (omega (arith, a .columns-same, z .lists));
             }
 
@@ -265,14 +265,14 @@ module _ (samples : List Float) (tolerance : Float) (t₀ : Memory) where
               (rw read (omega (arith, more .rows-long))) (rw (terms .columns-long) (more .columns-least))
 
           pub stops : (w : ℕ) (s' : Progress) → r ≡ Stop w s' → Ran whole t₀ (reported w s' (k + 1)) t'
-          unfolding after report
+          unfolding followed report
           stops w s' e =
               let answer : o .answer ≡ Stop w s' = sym (done .answer-is) ∙ e in
               let last : finish w s' (o .found) ≡ whole = rw answer at next in
               rw (← last) record { report-is = rw (more .rows-long); memory-is = over-all }
 
           pub goes : (s' : Progress) → r ≡ More s' → Alike t t' → Going t' rows'' columns'' s' (k + 1)
-          unfolding after
+          unfolding followed
           goes s' e same =
               let answer : o .answer ≡ More s' = sym (done .answer-is) ∙ e in
               let onward : Onward k (length (t₀ .column)) (length (t₀ .row)) (More s') (o .found) = rw answer at (more .onward) in

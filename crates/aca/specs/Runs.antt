@@ -6,12 +6,12 @@ use lib.Dec.{eqb, leb}
 use lib.Ieee.{Float}
 use lib.ListN.{length}
 use Rattle.common.specs.Floats.{times, zero₆₄}
-use Rattle.common.specs.Refusals.{noCount, wrongLength, unless, left}
-use Rattle.steps.specs.Crosses.{Block, Found, found, usedUp, step}
-use Rattle.steps.specs.Memories.{Memory, laid, blockOf}
-use Rattle.steps.specs.declared.Progress.{Progress}
-use Rattle.steps.specs.declared.Step.{Step}
-use Rattle.steps.specs.declared.Step.the-variants.{More, Stop}
+use Rattle.common.specs.Refusals.{noCount, wrongLength, unless, left, mostEntries}
+use Rattle.aca_steps.specs.Crosses.{Block, Found, found, usedUp, step}
+use Rattle.aca_steps.specs.Memories.{Memory, laid, blockOf}
+use Rattle.aca_steps.specs.declared.Progress.{Progress}
+use Rattle.aca_steps.specs.declared.Step.{Step}
+use Rattle.aca_steps.specs.declared.Step.the-variants.{More, Stop}
 use Rattle.aca.specs.declared.Lengths.{Lengths}
 use Rattle.aca.specs.declared.Report.{Report}
 use Rattle.aca.specs.declared.Approximation.{Approximation}
@@ -29,13 +29,13 @@ abbrev pub finish : (stop : ℕ) → Progress → Found → Finish
 finish w s f = record { stop = w; state = s; found = f }
 
 -- after a step: the rest of the run, or its end
-unfoldable pub after : Step → Found → (rest : Progress → Found → Finish) → Finish
-after (More s) f rest = rest s f
-after (Stop w s) f rest = finish w s f
+unfoldable pub followed : Step → Found → (rest : Progress → Found → Finish) → Finish
+followed (More s) f rest = rest s f
+followed (Stop w s) f rest = finish w s f
 
 unfoldable pub run : (steps : ℕ) → Block → (tolerance : Float) → Progress → Found → Finish
 run zero b tolerance s f = finish usedUp s f
-run (suc n) b tolerance s f = let o = step b tolerance s f in after (o .answer) (o .found) (run n b tolerance)
+run (suc n) b tolerance s f = let o = step b tolerance s f in followed (o .answer) (o .found) (run n b tolerance)
 
 abbrev pub begin : Progress
 begin = record { estimate = zero₆₄; cross = zero₆₄; rank = 0; next = 0 }
@@ -68,7 +68,7 @@ fits m n l =
     && (eqb (l .«column_list») (min m n) && (eqb (l .row) n && eqb (l .column) m)))))
 
 unfoldable pub acaNumber : (m n : ℕ) → Lengths → ℕ
-acaNumber m n l = unless (leb m 1024 && leb n 1024) noCount (unless (fits m n l) wrongLength 0)
+acaNumber m n l = unless (leb m mostEntries && leb n mostEntries) noCount (unless (fits m n l) wrongLength 0)
 
 -- nothing is found yet, and the row and the column at hand are as lent
 abbrev pub start : Memory → Found

@@ -4,8 +4,8 @@ use mathlib.Core.Path.{_≡_}
 use mathlib.Core.List.{List, []}
 use lib.Ieee.{Float}
 use lib.ListN.{length}
-use Rattle.steps.specs.Memories.{Memory, laid, blockOf}
-use Rattle.steps.specs.Standing.{Marks, Sizes}
+use Rattle.aca_steps.specs.Memories.{Memory, laid, blockOf}
+use Rattle.aca_steps.specs.Standing.{Marks, Sizes}
 use Rattle.aca.specs.Runs.{Finish, run, begin, report, start}
 use Rattle.aca.specs.declared.Report.{Report}
 

@@ -1,19 +1,17 @@
 // Cross approximation of a block: the run of its steps, and the call.
 ghost use mathlib.Core.Path.{_≡_};
 ghost use lib.ListN.{length};
-ghost use Rattle.steps.specs.Memories.{memory};
+ghost use Rattle.aca_steps.specs.Memories.{memory};
 ghost use Rattle.aca.specs.Runs.{reported, call, acaCall};
 ghost use Rattle.aca.specs.Working.{Begun, ran, Ran};
 use crate::Approximation;
 use crate::Lengths;
 use crate::Report;
 use crate::limits::aca_number;
-use steps::Progress;
-use steps::Step;
-use steps::advance;
-
-// Why a run ends where no step stops it: there are as many terms as the block has rows or columns.
-const USED_UP: u8 = 3;
+use aca_steps::Progress;
+use aca_steps::Step;
+use aca_steps::USED_UP;
+use aca_steps::advance;
 
 fn report(stop: u8, s: Progress, rows_read: usize) -> Report
     ensures { λ r. ⌜ r ≡ reported stop s «rows_read» ⌝ }

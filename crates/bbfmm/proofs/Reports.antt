@@ -11,7 +11,7 @@ use borrow.Author.Tests.{eq-eqb, ne-eqb}
 use Rattle.common.specs.Refusals.{left, lower}
 use Rattle.common.proofs.Cases.{by-bool}
 use Rattle.common.proofs.Limits.{left-done, left-refused}
-use Rattle.steps.specs.Memories.{Memory, laid}
+use Rattle.aca_steps.specs.Memories.{Memory, laid}
 use Rattle.aca.specs.Runs.{fits, report, lengths, acaNumber, approximation, answered, Call, call, acaCall}
 use Rattle.aca.specs.declared.Report.{Report}
 use Rattle.aca.specs.declared.Approximation.{Approximation}

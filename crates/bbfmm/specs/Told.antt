@@ -11,10 +11,10 @@ use Rattle.turn.specs.declared.Vector.{Vector}
 use Rattle.turn.specs.declared.Entry.{Entry}
 use Rattle.turn.specs.Vectors.{sizes}
 use Rattle.turn.specs.LookUps.{entries, lookUpNumber, entryOf, referenceNumber, referenceAt}
-use Rattle.lines.specs.Largest.{argmax, counts}
+use Rattle.aca_lines.specs.Largest.{argmax, counts}
 use Rattle.choices.specs.Argmax.{argmaxNumber}
 use Rattle.choices.specs.Cutoff.{cutoff, cutoffNumber}
-use Rattle.steps.specs.Memories.{Memory, laid}
+use Rattle.aca_steps.specs.Memories.{Memory, laid}
 use Rattle.aca.specs.Runs.{report, lengths, acaNumber, approximation}
 use Rattle.aca.specs.declared.Report.{Report}
 use Rattle.bbfmm.specs.Answers.{withLength, told}

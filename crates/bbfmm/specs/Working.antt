@@ -5,7 +5,7 @@ use mathlib.Core.List.{List, [], _∷_}
 use lib.Dec.{eqb, leb}
 use lib.Ieee.{Float}
 use lib.ListN.{length}
-use Rattle.common.specs.Refusals.{noCount, wrongLength, unless}
+use Rattle.common.specs.Refusals.{noCount, wrongLength, unless, mostEntries}
 use Rattle.choices.specs.declared.Place.{Place}
 use Rattle.choices.specs.declared.Place.the-variants as place
 use Rattle.aca.specs.declared.Approximation.{Approximation}
@@ -25,4 +25,4 @@ reportTold (made.Done r) c e = (0, countsOf r, r .estimate ∷ [])
 
 -- the number of a call whose report does not fit: too many rows or columns are refused first
 unfoldable pub unfitNumber : (m n : ℕ) → ℕ
-unfitNumber m n = unless (leb m 1024 && leb n 1024) noCount wrongLength
+unfitNumber m n = unless (leb m mostEntries && leb n mostEntries) noCount wrongLength

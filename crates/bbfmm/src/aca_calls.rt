@@ -1,7 +1,7 @@
 // Cross approximation, with its report in two lent slices.
 ghost use mathlib.Core.Path.{_≡_};
 ghost use lib.ListN.{length};
-ghost use Rattle.steps.specs.Memories.{memory};
+ghost use Rattle.aca_steps.specs.Memories.{memory};
 ghost use Rattle.bbfmm.specs.Told.{crossed, crossTold};
 ghost use Rattle.bbfmm.specs.Working.{unfitNumber, reportTold};
 use aca::Approximation;
@@ -11,10 +11,10 @@ use aca::aca_partial_pivoting;
 fn unfit_number(rows: usize, columns: usize) -> u8
     ensures { λ r. ⌜ r ≡ unfitNumber rows columns ⌝ }
 {
-    if 1024 < rows {
+    if common::MOST_ENTRIES < rows {
         return common::NO_COUNT;
     }
-    if 1024 < columns {
+    if common::MOST_ENTRIES < columns {
         return common::NO_COUNT;
     }
     common::WRONG_LENGTH

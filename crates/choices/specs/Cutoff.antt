@@ -5,7 +5,7 @@ use mathlib.Core.List.{List, [], _∷_}
 use lib.Ieee.{Float, lt}
 use lib.ListN.{length}
 use Rattle.common.specs.Floats.{plus, times, zero₆₄}
-use Rattle.common.specs.Refusals.{noCount, unless}
+use Rattle.common.specs.Refusals.{noCount, unless, mostEntries}
 use Rattle.common.specs.Tests.{within}
 use Rattle.choices.specs.declared.Place.{Place}
 use Rattle.choices.specs.Places.{placed}
@@ -26,7 +26,7 @@ cutoff l epsilon = firstBelow (times (times (squares l) epsilon) epsilon) l
 -- THE CALL
 
 unfoldable pub cutoffNumber : (values : List Float) → ℕ
-cutoffNumber l = unless (within 1 1024 (length l)) noCount 0
+cutoffNumber l = unless (within 1 mostEntries (length l)) noCount 0
 
 unfoldable pub cutoffCall : (values : List Float) → (epsilon : Float) → Place
 cutoffCall l epsilon = placed (cutoffNumber l) (cutoff l epsilon)

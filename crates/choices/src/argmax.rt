@@ -22,14 +22,14 @@ pub fn argmax_masked(entries: &[f64], mask: &[u8]) -> Place
     ensures { λ r. ⌜ r ≡ argmaxCall (now (entries .entry)) (now (mask .entry)) ⌝ }
 {
     let n = entries.len();
-    if 1024 < n {
+    if common::MOST_ENTRIES < n {
         return Place::Refused(common::NO_COUNT);
     }
     if mask.len() != n {
         return Place::Refused(common::WRONG_LENGTH);
     }
     if is_mask(mask) {
-        return Place::At(lines::pick(entries, mask));
+        return Place::At(aca_lines::pick(entries, mask));
     }
     Place::Refused(common::NO_MASK)
 }

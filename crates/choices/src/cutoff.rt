@@ -41,7 +41,7 @@ pub fn calculate_singular_values_cutoff(values: &[f64], epsilon: f64) -> Place
     if n == 0 {
         return Place::Refused(common::NO_COUNT);
     }
-    if 1024 < n {
+    if common::MOST_ENTRIES < n {
         return Place::Refused(common::NO_COUNT);
     }
     let bound = sum_squares(values) * epsilon * epsilon;

@@ -14,7 +14,7 @@ use Rattle.chebyshev.specs.Polynomials.{polynomialsCall}
 use Rattle.transfer.specs.Tensor.{transferCall}
 use Rattle.choices.specs.Argmax.{argmaxCall}
 use Rattle.choices.specs.Cutoff.{cutoffCall}
-use Rattle.steps.specs.Memories.{Memory, memory}
+use Rattle.aca_steps.specs.Memories.{Memory, memory}
 use Rattle.aca.specs.Runs.{call, acaCall}
 use Rattle.choices.specs.declared.Place.the-variants.{At}
 use Rattle.aca.specs.declared.Approximation.the-variants.{Done}

@@ -4,7 +4,7 @@ use mathlib.Core.Path.{_≡_, refl, _∙_}
 use Prim.Native.Nat.{_-_}
 use native.Mathlib.Omega.{arith}
 use lib.ListN.{length}
-use Rattle.steps.specs.Memories.{memory}
+use Rattle.aca_steps.specs.Memories.{memory}
 use Rattle.aca.proofs.Repeated.{Going, going-none, ends, ready, stops, goes}
 use Rattle.aca.proofs.run.run.Statement.{statement}
 use Rattle.aca.proofs.run.run.Tie as tie

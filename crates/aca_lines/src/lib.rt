@@ -1,0 +1,14 @@
+// What a step of the cross approximation does with a row or a column of the block: read it less the earlier terms, find its
+// largest entry, multiply it, weigh it, store it.
+mod block;
+mod pivot;
+mod reader;
+mod terms;
+
+pub use block::read_column;
+pub use block::read_row;
+pub use pivot::pick;
+pub use terms::cross;
+pub use terms::multiply;
+pub use terms::norm;
+pub use terms::store;

@@ -1,12 +1,9 @@
 // The terms of a run, u in one matrix and v in another, a column a term: their sums, their weight, and one more.
 ghost use mathlib.Core.Path.{_≡_};
 ghost use Prim.Native.Nat.{_+_, _*_, _<_, _≤_};
-ghost use lib.Ieee.{nan};
-ghost use lib.ListN.{length, getD};
-ghost use Rattle.common.specs.Floats.{times, sums};
-ghost use Rattle.common.specs.Lists.{tabulate, stretch};
-ghost use Rattle.common.specs.Matrices.{matrix};
-ghost use Rattle.aca_lines.specs.Lines.{multiplied, norm as normOf, cross as crossOf};
+ghost use lib.ListN.{length};
+ghost use Rattle.aca_lines.specs.Lines.{multiplied, asColumn, norm as normOf, cross as crossOf};
+ghost use Rattle.aca_lines.specs.Working.{summed};
 
 // Writes the sum of the first k columns of a matrix, each times a factor: entry `at` of each column of another.
 pub(crate) fn sum_terms(
@@ -18,7 +15,7 @@ pub(crate) fn sum_terms(
     line: &mut [f64],
 )
     requires { ⌜ (at < stride) × (k * stride ≤ length (now factors)) × (k * length (now line) ≤ length (now terms)) ⌝ }
-    ensures { λ _. ⌜ now (line .exit) ≡ tabulate (length (now (line .entry))) (λ c. sums k (λ l. times (matrix (length (now (line .entry))) (now (terms .entry)) c l) (matrix stride (now (factors .entry)) at l))) ⌝ }
+    ensures { λ _. ⌜ now (line .exit) ≡ summed (length (now (line .entry))) k (now (terms .entry)) stride (now (factors .entry)) at ⌝ }
 {
     let n = line.len();
     common::fill_with(0.0, n, 0, line);
@@ -68,9 +65,10 @@ pub fn cross(k: usize, u: &[f64], v: &[f64], column: &[f64], row: &[f64]) -> f64
 
 // Stores the column and the row as u and v of term k.
 pub fn store(k: usize, u: &mut [f64], v: &mut [f64], column: &[f64], row: &[f64])
-    requires { ⌜ (k * length (now column) + length (now column) ≤ length (now u)) × (k * length (now row) + length (now row) ≤ length (now v)) ⌝ }
-    ensures { λ _. ⌜ now (u .exit) ≡ stretch (k * length (now (column .entry))) (length (now (column .entry))) (λ i. getD (now (column .entry)) i nan) (now (u .entry)) ⌝ }
-    ensures { λ _. ⌜ now (v .exit) ≡ stretch (k * length (now (row .entry))) (length (now (row .entry))) (λ i. getD (now (row .entry)) i nan) (now (v .entry)) ⌝ }
+    requires { ⌜ k * length (now column) + length (now column) ≤ length (now u) ⌝ }
+    requires { ⌜ k * length (now row) + length (now row) ≤ length (now v) ⌝ }
+    ensures { λ _. ⌜ now (u .exit) ≡ asColumn k (now (column .entry)) (now (u .entry)) ⌝ }
+    ensures { λ _. ⌜ now (v .exit) ≡ asColumn k (now (row .entry)) (now (v .entry)) ⌝ }
 {
     let m = column.len();
     let n = row.len();

@@ -3,7 +3,8 @@ use mathlib.Core.Path.{_≡_}
 use mathlib.Core.List.{List}
 use Prim.Native.Nat.{ℕ, _<_}
 use Rattle.common.proofs.Determined.{coincide}
-use Rattle.aca_lines.specs.Largest.{counts}
+use Rattle.common.specs.Refusals.{mostEntries}
+use Rattle.aca_lines.specs.Flags.{isOn}
 use Rattle.aca_steps.specs.Crosses.{Outcome}
 use Rattle.aca_steps.specs.Memories.{Memory}
 use Rattle.aca_steps.specs.Standing.{Stepped}
@@ -11,7 +12,7 @@ use Rattle.aca_steps.specs.declared.Step.{Step}
 
 advance-determined : (o : Outcome) (t after after' : Memory) (r r' : Step) (rows rows' columns columns' : List ℕ) →
     Stepped o t r after rows columns → Stepped o t r' after' rows' columns' →
-    (r ≡ r') × (after ≡ after') × ((k : ℕ) → k < 1024 → (counts rows k ≡ counts rows' k) × (counts columns k ≡ counts columns' k))
+    (r ≡ r') × (after ≡ after') × ((k : ℕ) → k < mostEntries → (isOn rows k ≡ isOn rows' k) × (isOn columns k ≡ isOn columns' k))
 advance-determined o t after after' r r' rows rows' columns columns' h h' = (
   coincide r r' _ (h .answer-is) (h' .answer-is),
   coincide after after' _ (h .memory-is) (h' .memory-is),

@@ -5,10 +5,11 @@ use mathlib.Core.List.{List, [], _∷_, _++_}
 use lib.Dec.{eqb}
 use lib.Ieee.{Float, nan, lt, le, ofBits, binary64}
 use lib.ListN.{getD}
-use Rattle.common.specs.Floats.{plus, times, over, one₆₄, two₆₄, size}
-use Rattle.aca_lines.specs.Largest.{argmax}
+use Rattle.common.specs.Floats.{plus, times, over, one₆₄, two₆₄}
+use Rattle.aca_lines.specs.Largest.{argmax, pivot}
 use Rattle.common.specs.Matrices.{matrix}
 use Rattle.aca_lines.specs.Lines.{residual, multiplied, norm, cross}
+use Rattle.aca_lines.specs.declared.Pivot.{Pivot}
 use Rattle.aca_steps.specs.declared.Progress.{Progress}
 use Rattle.aca_steps.specs.declared.Step.{Step}
 use Rattle.aca_steps.specs.declared.Step.the-variants.{More, Stop}
@@ -53,7 +54,8 @@ rowRead b s f =
 -- column j is read, and the row is multiplied by 1 over its entry there
 unfoldable pub columnRead : Block → Progress → Found → (j : ℕ) → Found
 columnRead b s f j =
-    found (f .us) (f .vs) (f .rows) (f .columns ++ j ∷ []) (multiplied (over one₆₄ (getD (f .row) j nan)) (f .row)) (residualColumn b f (s .rank) j)
+    let row = multiplied (over one₆₄ (getD (f .row) j nan)) (f .row) in
+    found (f .us) (f .vs) (f .rows) (f .columns ++ j ∷ []) row (residualColumn b f (s .rank) j)
 
 -- THE TERM
 
@@ -66,6 +68,16 @@ grown s g x i =
       rank = s .rank + 1;
       next = i;
     }
+
+-- the state after the term whose row and column are at hand
+unfoldable pub weighed : Progress → Found → Progress
+weighed s f =
+    let shared = cross (s .rank) (f .us) (f .vs) (f .column) (f .row) in
+    grown s (norm (f .column) (f .row)) shared (argmax (f .column) (unread (f .rows)))
+
+-- the row and the column at hand are v and u of one more term
+unfoldable pub stored : Found → Found
+stored f = found (f .us ++ f .column) (f .vs ++ f .row) (f .rows) (f .columns) (f .row) (f .column)
 
 -- THE STEP
 
@@ -95,20 +107,13 @@ pub record Outcome : Type 0 where
 abbrev pub outcome : Step → Found → Outcome
 outcome r f = record { answer = r; found = f }
 
--- the row and the column at hand are v and u of one more term
-unfoldable pub stored : Found → Found
-stored f = found (f .us ++ f .column) (f .vs ++ f .row) (f .rows) (f .columns) (f .row) (f .column)
-
 unfoldable pub accepted : (tolerance : Float) → Progress → Found → Outcome
-accepted tolerance s f =
-    let g = norm (f .column) (f .row) in
-    let x = cross (s .rank) (f .us) (f .vs) (f .column) (f .row) in
-    outcome (judged tolerance g (grown s g x (argmax (f .column) (unread (f .rows))))) (stored f)
+accepted tolerance s f = outcome (judged tolerance (norm (f .column) (f .row)) (weighed s f)) (stored f)
 
 -- a row whose pivot is below 2 ^ -52 gives no term
-unfoldable pub tried : Block → (tolerance : Float) → Progress → Found → (pivot : ℕ) → Outcome
-tried b tolerance s f j =
-    cond (lt (size (getD (f .row) j nan)) tiny₆₄) (outcome (Stop spent s) f) (accepted tolerance s (columnRead b s f j))
+unfoldable pub tried : Block → (tolerance : Float) → Progress → Found → Pivot → Outcome
+tried b tolerance s f p =
+    cond (lt (p .size) tiny₆₄) (outcome (Stop spent s) f) (accepted tolerance s (columnRead b s f (p .place)))
 
 unfoldable pub step : Block → (tolerance : Float) → Progress → Found → Outcome
-step b tolerance s f = let r = rowRead b s f in tried b tolerance s r (argmax (r .row) (unread (r .columns)))
+step b tolerance s f = let r = rowRead b s f in tried b tolerance s r (pivot (r .row) (unread (r .columns)))

@@ -1,6 +1,5 @@
--- An enum's answer says the call's number and its values: looking up, reference vectors, places. Assumes nothing.
+-- An enum's answer says the call's number and its values: looking up, reference vectors. Assumes nothing.
 use mathlib.Core.Path.{_≡_, refl}
-use mathlib.Core.List.{List, [], _∷_}
 use Prim.Native.Nat.{ℕ, zero, suc}
 use native.Mathlib.Omega.{arith}
 use lib.IntN.{ℤ}
@@ -13,10 +12,6 @@ use Rattle.turn.specs.declared.LookUp.the-variants as look
 use Rattle.turn.specs.declared.Reference.the-variants as refer
 use Rattle.turn.specs.Vectors.{sizes}
 use Rattle.turn.specs.LookUps.{entries, lookUpNumber, entryOf, lookedUp, lookUp, referenceNumber, referenceAt, referred, referenceCall}
-use Rattle.choices.specs.Places.{placed}
-use Rattle.bbfmm.specs.Answers.{told}
-use Rattle.bbfmm.specs.Working.{placeTold}
-use Rattle.bbfmm.proofs.Lengths.{told-refused}
 
 -- LOOKING UP
 
@@ -60,11 +55,3 @@ module _ (D i : ℕ) where
   pub reference-found : (w : Vector) → refer.Found w ≡ referenceCall D i → (referenceNumber D i ≡ 0) × (w ≡ referenceAt D i)
   unfolding referenceCall
   reference-found w = found-reference _ _ w
-
--- PLACES
-
--- what is told of a place, or of a refusal, is told of the number and the place
-pub place-told : (n k : ℕ) (lent : List ℕ) → placeTold (placed n k) lent ≡ told n (k ∷ []) lent
-unfolding placeTold
-place-told zero k lent = refl
-place-told (suc n) k lent = told-refused (k ∷ []) lent (suc n) _ refl (λ z. omega arith)

@@ -59,7 +59,8 @@ pub record Crossed : Type 0 where
 abbrev pub crossed : (number : ℕ) → Memory → (counts : List ℕ) → (estimate : List Float) → Crossed
 crossed n t c e = record { number = n; leaves = t; counts = c; estimate = e }
 
-unfoldable pub crossTold : (m n : ℕ) → (samples : List Float) → (epsilon : Float) → Memory → (counts : List ℕ) → (estimate : List Float) → Crossed
+unfoldable pub crossTold : (m n : ℕ) → (samples : List Float) → (epsilon : Float) → Memory → (counts : List ℕ) →
+    (estimate : List Float) → Crossed
 crossTold m n a epsilon t c e =
     let f = approximation m n a epsilon t in
     let number = crossNumber m n a t c e in

@@ -2,14 +2,13 @@
 use Prim.Native.Nat.{ℕ}
 use mathlib.Core.Bool.{Bool}
 use mathlib.Core.List.{List}
+use mathlib.Core.Option.{Option}
 use lib.Dec.{eqb, leb}
 use lib.Ieee.{Float}
 use lib.ListN.{length, getD}
-use Rattle.common.specs.Refusals.{noCount, wrongLength, noMask, unless, mostEntries}
+use Rattle.common.specs.Refusals.{noCount, wrongLength, noMask, unless, mostEntries, answer}
 use Rattle.common.specs.Tests.{each}
 use Rattle.aca_lines.specs.Largest.{argmax, counts}
-use Rattle.choices.specs.declared.Place.{Place}
-use Rattle.choices.specs.Places.{placed}
 
 -- each byte is 0 or 1
 unfoldable pub isMask : (mask : List ℕ) → Bool
@@ -20,5 +19,5 @@ argmaxNumber l mask =
     unless (leb (length l) mostEntries) noCount
     (unless (eqb (length mask) (length l)) wrongLength (unless (isMask mask) noMask 0))
 
-unfoldable pub argmaxCall : (entries : List Float) → (mask : List ℕ) → Place
-argmaxCall l mask = placed (argmaxNumber l mask) (argmax l (counts mask))
+unfoldable pub argmaxCall : (entries : List Float) → (mask : List ℕ) → ℕ × Option ℕ
+argmaxCall l mask = answer (argmaxNumber l mask) (argmax l (counts mask))

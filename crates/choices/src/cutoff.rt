@@ -1,6 +1,7 @@
 // How many singular values to keep.
 ghost use mathlib.Core.Path.{_≡_};
 ghost use Rattle.choices.specs.Cutoff.{squares, firstBelow, cutoffCall};
+ghost use Rattle.choices.specs.Places.{told};
 use crate::Place;
 
 // The squares, summed from the end.
@@ -35,7 +36,7 @@ fn first_below(bound: f64, values: &[f64]) -> usize
 
 // The first place from which on the singular values matter less than the tolerance, by their squares; or how many there are.
 pub fn calculate_singular_values_cutoff(values: &[f64], epsilon: f64) -> Place
-    ensures { λ r. ⌜ r ≡ cutoffCall (now (values .entry)) epsilon ⌝ }
+    ensures { λ r. ⌜ told r ≡ cutoffCall (now (values .entry)) epsilon ⌝ }
 {
     let n = values.len();
     if n == 0 {

@@ -14,17 +14,17 @@ use Rattle.turn.specs.Tables.{tableNumber, tableCall}
 use Rattle.turn.specs.LookUps.{lookUpNumber, entryOf, lookUp}
 use Rattle.chebyshev.specs.Polynomials.{T, T′, polynomialsNumber, polynomialsCall}
 use Rattle.transfer.specs.Tensor.{passed, along, ends, transferNumber, transferred, transferCall}
-use Rattle.aca_lines.specs.Largest.{best, argmax, counts}
+use Rattle.aca_lines.specs.Largest.{best, argmax, pivot, counts}
 use Rattle.choices.specs.Argmax.{isMask, argmaxNumber, argmaxCall}
 use Rattle.aca_lines.specs.Lines.{residual, multiplied, norm, cross}
-use Rattle.aca_steps.specs.Crosses.{unread, rowRead, columnRead, grown, judged, stored, accepted, tried, step}
+use Rattle.aca_steps.specs.Crosses.{unread, rowRead, columnRead, grown, weighed, judged, stored, accepted, tried, step}
 use Rattle.choices.specs.Cutoff.{squares, firstBelow, cutoff, cutoffNumber, cutoffCall}
 use Rattle.aca_steps.specs.Memories.{laid}
 use Rattle.aca.specs.Runs.{followed, run, report, fits, acaNumber, approximation, acaCall}
 use Rattle.fixed.specs.Results.{Fixed}
 
 pub fixed : Fixed
-unfolding number digit sums columnMajor left each those count factorial skip unskip axis place largest order sorted index case atMost near isReference references entry farReference referenceOf reversed negative axisOf placeOf turnedIndex turned returnedIndex returned tableNumber tableCall lookUpNumber entryOf lookUp T T′ polynomialsNumber polynomialsCall passed along ends transferNumber transferred transferCall size best argmax counts isMask argmaxNumber argmaxCall residual multiplied unread rowRead columnRead norm cross grown judged stored accepted tried step squares firstBelow cutoff cutoffNumber cutoffCall followed run report laid fits acaNumber approximation acaCall trailingZeros add sub mul div neg lt le ofBits ofFields ofInt odd units round sum digits span climb
+unfolding number digit sums columnMajor left each those count factorial skip unskip axis place largest order sorted index case atMost near isReference references entry farReference referenceOf reversed negative axisOf placeOf turnedIndex turned returnedIndex returned tableNumber tableCall lookUpNumber entryOf lookUp T T′ polynomialsNumber polynomialsCall passed along ends transferNumber transferred transferCall size best argmax pivot counts isMask argmaxNumber argmaxCall residual multiplied unread rowRead columnRead norm cross grown weighed judged stored accepted tried step squares firstBelow cutoff cutoffNumber cutoffCall followed run report laid fits acaNumber approximation acaCall trailingZeros add sub mul div neg lt le ofBits ofFields ofInt odd units round sum digits span climb
 fixed =
     record {
       vector-158 = refl;

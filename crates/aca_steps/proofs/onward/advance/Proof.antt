@@ -1,33 +1,32 @@
 -- `aca_steps::onward::advance` meets its contract: what it does in memory is one step of the rule. Assumes nothing.
 use borrow.Author.Needs.{needs}
-use Prim.Native.Nat.{_<_}
-use native.Mathlib.Omega.{arith}
-use lib.ListN.{length}
-use Rattle.aca_steps.proofs.OneStep.{left-room, right-room, pivot-in, stopped, went-on}
+use Rattle.aca_steps.proofs.OneStep.{row-fits, term-fits, stopped, went-on}
 use Rattle.aca_steps.proofs.onward.advance.Statement.{statement}
 use Rattle.aca_steps.proofs.onward.advance.Tie as tie
 
--- the pivot is an entry of the row
-pivot : (c : tie.After-take-row) → c .take-row .result < length (c .before .before .before .before .before .before .before .before .before .before .before .before .before .before .args .row .now)
-pivot c = pivot-in (c .before .before .before .before .before .before .before .before .before .before .before .before .before .before .args .samples .now) (c .before .before .before .before .before .before .before .before .before .before .before .before .before .before .args .tolerance) (c .before .before .before .before .before .before .before .before .before .before .before .before .before .before .args .s) _ _ _ _ _ _ _ _ (c .before .before .before .before .before .before .before .before .before .before .before .before .before .before .pre .0) _ _ (c .take-row .ensures .1 .0) (c .take-row .ensures .0)
+-- THE PLACES, each from the one after it; the row has no pivot, or has one
+abbrev accepted : tie.After-slice-known13 → tie.After-accept
+accepted c = c .before .before .before .before .before .before .before .before .before .before
+
+abbrev pivoted : tie.After-accept → tie.Else1
+pivoted c = c .before .before .before .before .before .before .before .before
+
+abbrev row-taken' : tie.Else1 → tie.After-take-row
+row-taken' c = c .before .before .before .before .before .before
+
+abbrev row-taken : tie.Then1 → tie.After-take-row
+row-taken c = c .before .before .before .before .before .before
+
+abbrev first : tie.After-take-row-arg6 → tie.Start
+first c = c .before .before .before .before .before .before .before .before .before .before .before .before .before
+
+abbrev start : tie.After-take-row → tie.Start
+start c = first (c .before)
 
 take-row-requires : tie.Need-take-row-requires
 take-row-requires c κs =
-    let s = c .before .before .before .before .before .before .before .before .before .before .before .before .before in
-    let r = s .pre .0 in
-    ((r .row-in, r .sizes .tall, r .sizes .wide, r .term), (r .sizes .block, omega (arith, left-room (s .args .samples .now) (s .args .tolerance) (s .args .s) _ _ _ _ _ _ _ _ (s .pre .0)), omega (arith, right-room (s .args .samples .now) (s .args .tolerance) (s .args .s) _ _ _ _ _ _ _ _ (s .pre .0))))
-
-mul-size-of : tie.Need-mul-size-of
-mul-size-of c =
-    omega (arith, pivot (c .before .before .before .before), c .before .before .before .before .before .before .before .before .before .before .before .before .before .before .before .before .before .before .pre .0 .sizes .wide)
-
-slice-read-size-of : tie.Need-slice-read-size-of
-slice-read-size-of c =
-    let s = c .before .before .before .before .before in
-    omega (arith, pivot (s), s .take-row .kept .1 .1 .1 .1 .1 .1 .1 .1 .1 .0)
-
-size-of-requires : tie.Need-size-of-requires
-size-of-requires c κs = search needs
+    let s = first c in
+    row-fits (s .args .samples .now) (s .args .tolerance) (s .args .s) (s .args .read) _ _ _ (s .pre)
 
 same-length : tie.Need-same-length
 same-length c = search needs
@@ -43,18 +42,18 @@ same-length-4 c = search needs
 
 returns : tie.Need-returns
 returns c =
-    let s = c .before .before .before .before .before .before .before .before .before .before .before .before .before .before .before .before .before .before .before .before .before in
-    let q = c .before .before .before .before .before .before .before .take-row .ensures in
-    rw (q .1 .1 .0, q .1 .1 .1) (stopped (s .args .samples .now) (s .args .tolerance) (s .args .s) _ _ _ _ _ _ _ _ (s .pre .0) _ _ (q .1 .0) (q .0) (rw (c .before .size-of .ensures) at (c .if1 .taken)))
+    let r = row-taken c .take-row in
+    let s = start (row-taken c) in
+    stopped (s .args .samples .now) (s .args .tolerance) (s .args .s) (s .args .read) _ _ _ (s .pre) _ _ _ _
+    (r .ensures .1 .0) (r .ensures .0) (r .ensures .1 .1 .0) (r .ensures .1 .1 .1) (c .if1 .taken)
 
 accept-requires : tie.Need-accept-requires
 accept-requires c κs =
-    let t = c .before .before .before .before .before .before .before .before .before .before .before .before .before .before .before .before .before .before .before .before .before .before .before .before .before .before .before .before in
-    let o = c .before .before .before .before .before .before .before .before .before .before .before .before .before .before in
-    let s = t in
-    let r = s .pre .0 in
-    let some : s .args .s .rank < length (s .args .column-list .now) = omega (arith, r .term, r .sizes .lists) in
-    rw (o .take-row .kept .1 .1 .1 .1 .1 .1 .1 .1 .1 .0) ((s .pre .1, pivot (o), r .sizes .wide, r .sizes .tall, some), (r .sizes .block, left-room (t .args .samples .now) (t .args .tolerance) (t .args .s) _ _ _ _ _ _ _ _ (t .pre .0), right-room (t .args .samples .now) (t .args .tolerance) (t .args .s) _ _ _ _ _ _ _ _ (t .pre .0)))
+    let t = row-taken' (c .before .before .before .before .before .before .before) in
+    let r = t .take-row in
+    let s = start t in
+    term-fits (s .args .samples .now) (s .args .tolerance) (s .args .s) (s .args .read) _ _ _ (s .pre) _ _ _ _
+    (r .ensures .1 .0) (r .ensures .0) (r .ensures .1 .1 .0) (r .ensures .1 .1 .1)
 
 same-length-5 : tie.Need-same-length-5
 same-length-5 c = search needs
@@ -76,20 +75,18 @@ same-length-10 c = search needs
 
 returns-2 : tie.Need-returns-2
 returns-2 c =
-    let s = c .before .before .before .before .before .before .before .before .before .before .before .before .before .before .before .before .before .before .before .before .before .before .before .before .before .before .before .before .before .before .before .before .before .before .before .before .before .before .before in
-    let q = c .before .before .before .before .before .before .before .before .before .before .before .before .before .before .before .before .before .before .before .before .before .before .before .before .before .take-row in
-    let e = q .ensures in
-    let g = c .before .before .before .before .before .before .before .before .before .before .accept .ensures in
-    rw (e .1 .1 .0, e .1 .1 .1) (went-on (s .args .samples .now) (s .args .tolerance) (s .args .s) _ _ _ _ _ _ _ _ (s .pre .0) _ _ (e .1 .0) (e .0) _ (rw (q .kept .1 .1 .1 .1 .1 .1 .1 .1 .1 .0) at (g .1 .1 .0)) _ _ _ _ _ _ (rw (c .before .before .before .before .before .before .before .before .before .before .before .before .before .before .before .before .before .before .before .size-of .ensures) at (c .before .before .before .before .before .before .before .before .before .before .before .before .before .before .before .before .before .before .if1 .left)) (g .1 .0) (rw (e .1 .1 .0) at (g .0)) (g .1 .1 .1 .0) (g .1 .1 .1 .1 .0) (g .1 .1 .1 .1 .1 .0) (rw (q .kept .1 .1 .1 .1 .1 .1 .1 .1 .1 .0) at (g .1 .1 .1 .1 .1 .1)))
+    let a = accepted c in
+    let p = pivoted a in
+    let r = row-taken' p .take-row in
+    let s = start (row-taken' p) in
+    went-on (s .args .samples .now) (s .args .tolerance) (s .args .s) (s .args .read) _ _ _ (s .pre) _ _ _ _
+    (r .ensures .1 .0) (r .ensures .0) (r .ensures .1 .1 .0) (r .ensures .1 .1 .1) _ _ (a .accept .ensures) (p .if1 .left)
 
 pub advance-spec : {M : Type 1} → statement M
 advance-spec =
     tie.close
     (tie.spec
     take-row-requires
-    mul-size-of
-    slice-read-size-of
-    size-of-requires
     same-length
     same-length-2
     same-length-3

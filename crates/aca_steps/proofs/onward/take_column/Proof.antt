@@ -1,7 +1,20 @@
 -- `aca_steps::onward::take_column` meets its contract. Assumes nothing.
 use borrow.Author.Needs.{needs}
+use mathlib.Core.Path.{ap}
+use Rattle.aca_lines.specs.Largest.{pivot}
+use Rattle.aca_lines.specs.declared.Pivot.{Pivot}
 use Rattle.aca_steps.proofs.onward.take_column.Statement.{statement}
 use Rattle.aca_steps.proofs.onward.take_column.Tie as tie
+
+-- THE PLACES, each from the one after it
+abbrev marked : tie.After-pick-on → tie.After-mark
+marked c = c .before .before .before .before
+
+abbrev column-read : tie.After-mark → tie.After-read-column
+column-read c = c .before .before .before .before .before
+
+abbrev multiplied : tie.After-read-column → tie.After-multiply
+multiplied c = c .before .before .before .before
 
 mul-multiply : tie.Need-mul-multiply
 mul-multiply c = search needs
@@ -18,8 +31,8 @@ read-column-requires c κs = search needs
 mark-requires : tie.Need-mark-requires
 mark-requires c κs = search needs
 
-pick-requires : tie.Need-pick-requires
-pick-requires c κs = search needs
+pick-on-requires : tie.Need-pick-on-requires
+pick-on-requires c κs = search needs
 
 same-length : tie.Need-same-length
 same-length c = search needs
@@ -31,9 +44,18 @@ same-length-3 : tie.Need-same-length-3
 same-length-3 c = search needs
 
 returns : tie.Need-returns
+unfolding pivot
 returns c =
-    let s = c .before .before .before .before .before in
-    (c .pick .ensures, (c .before .before .before .before .before .before .before .before .before .before .before .before .before .before .multiply .ensures, (c .before .before .before .before .before .before .before .before .before .before .read-column .ensures, (s .mark .ensures .0, s .mark .ensures .1))))
+    let m = marked c in
+    let r = column-read m in (
+      ap (λ (p : Pivot). p .place) (c .pick-on .ensures),
+      record {
+        row-is = multiplied r .multiply .ensures;
+        column-is = r .read-column .ensures;
+        flags-are = m .mark .ensures .0;
+        list-is = m .mark .ensures .1;
+      },
+    )
 
 pub take-column-spec : {M : Type 1} → statement M
 take-column-spec =
@@ -44,7 +66,7 @@ take-column-spec =
     multiply-requires
     read-column-requires
     mark-requires
-    pick-requires
+    pick-on-requires
     same-length
     same-length-2
     same-length-3

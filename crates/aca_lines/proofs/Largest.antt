@@ -42,7 +42,7 @@ module _ (l : List Float) (on : ℕ → Bool) (k : ℕ) {y : ℕ} {x s : Float} 
 -- THE ANSWER, once all entries are passed
 
 -- an entry is the same whatever is read past the end
-any-default : (l : List Float) (k : ℕ) (d d' : Float) → k < length l → getD l k d ≡ getD l k d'
+pub any-default : (l : List Float) (k : ℕ) (d d' : Float) → k < length l → getD l k d ≡ getD l k d'
 any-default [] k d d' h = absurd (omega arith)
 any-default (x ∷ l) zero d d' h = refl
 any-default (x ∷ l) (suc k) d d' h = any-default l k d d' (omega arith)

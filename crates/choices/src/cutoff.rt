@@ -17,19 +17,20 @@ fn sum_squares(values: &[f64]) -> f64
     sum
 }
 
-// The first place from which on the squares sum up to less than a bound, or the length. From the end, the last found is the first.
+// The first place from which on the squares sum up to less than a bound, or the length. From the end the sums never fall, so the
+// first that is not below the bound ends the search.
 fn first_below(bound: f64, values: &[f64]) -> usize
     ensures { λ r. ⌜ r ≡ firstBelow bound (now (values .entry)) ⌝ }
 {
     let mut sum = 0.0;
-    let mut i = values.len();
-    let mut at = i;
-    while 0 < i {
-        i -= 1;
-        sum = sum + values[i] * values[i];
-        if sum < bound {
-            at = i;
+    let mut at = values.len();
+    while 0 < at {
+        let x = values[at - 1];
+        sum = sum + x * x;
+        if !(sum < bound) {
+            return at;
         }
+        at -= 1;
     }
     at
 }

@@ -1,36 +1,31 @@
 -- What the call of cross approximation answers: a refusal, or the run that the lengths allow. Assumes nothing.
 use mathlib.Core.Path.{_≡_, refl, sym, _∙_}
 use mathlib.Core.Bool.{_&&_, and-eq-true-iff}
-use mathlib.Core.List.{List, []}
+use mathlib.Core.List.{List}
 use Prim.Native.Nat.{ℕ, zero, suc, _*_, _≤_, min}
 use native.Mathlib.Nat.{min-le-left, min-le-right}
 use native.Mathlib.Omega.{arith}
 use lib.Dec.{leb}
 use lib.Ieee.{Float}
-use lib.ListN.{length, replicate, getD-replicate}
+use lib.ListN.{length}
 use borrow.Author.Tests.{eqb-true, leb-true}
 use Rattle.common.specs.Floats.{times}
-use Rattle.common.specs.Refusals.{left}
+use Rattle.common.specs.Refusals.{left, mostEntries, answer}
 use Rattle.common.proofs.Cases.{equal-and}
 use Rattle.common.proofs.Limits.{left-done, left-refused, passed}
-use Rattle.lines.specs.Largest.{counts}
-use Rattle.steps.specs.Crosses.{unread}
-use Rattle.steps.specs.Memories.{Memory, laid, blockOf}
-use Rattle.aca.specs.Runs.{run, begin, report, lengths, fits, acaNumber, start, approximation, answered, call, acaCall}
-use Rattle.steps.specs.Standing.{Marks}
+use Rattle.aca_lines.specs.Flags.{allOn}
+use Rattle.aca_steps.specs.Memories.{Memory, laid, blockOf}
+use Rattle.aca.specs.Runs.{run, begin, report, lengths, fits, acaNumber, start, approximation, call, acaCall}
+use Rattle.aca.specs.Answers.{told}
+use Rattle.aca_steps.proofs.Marked.{marks-none}
 use Rattle.aca.specs.Working.{Begun, ran, Ran}
 use Rattle.aca.specs.declared.Report.{Report}
 use Rattle.aca.specs.declared.Approximation.the-variants.{Refused, Done}
 
--- flags that are all 1 say that nothing is read
-pub none-read : Marks (replicate 1024 1) []
-unfolding counts unread
-none-read k h = rw (getD-replicate {A = ℕ} 1024 k 1 0 h)
-
 -- what the number 0 says of the lengths
 record Fitting (m n : ℕ) (a : List Float) (t : Memory) : Type 0 where
-  tall : m ≤ 1024
-  wide : n ≤ 1024
+  tall : m ≤ mostEntries
+  wide : n ≤ mostEntries
   samples-long : length a ≡ n * m
   us-long : length (t .us) ≡ min m n * m
   vs-long : length (t .vs) ≡ min m n * n
@@ -42,8 +37,8 @@ record Fitting (m n : ℕ) (a : List Float) (t : Memory) : Type 0 where
 fitting : (m n : ℕ) (a : List Float) (t : Memory) → acaNumber m n (lengths a t) ≡ 0 → Fitting m n a t
 unfolding acaNumber fits
 fitting m n a t z =
-    let few = passed (leb m 1024 && leb n 1024) 2 _ z in
-    let c = and-eq-true-iff (leb m 1024) (leb n 1024) .0 (few .0) in
+    let few = passed (leb m mostEntries && leb n mostEntries) 2 _ z in
+    let c = and-eq-true-iff (leb m mostEntries) (leb n mostEntries) .0 (few .0) in
     let f1 = equal-and (length a) (n * m) _ (passed _ 6 0 (few .1) .0) in
     let f2 = equal-and (length (t .us)) (min m n * m) _ (f1 .1) in
     let f3 = equal-and (length (t .vs)) (min m n * n) _ (f2 .1) in
@@ -51,8 +46,8 @@ fitting m n a t z =
     let f5 = equal-and (length (t .«column-list»)) (min m n) _ (f4 .1) in
     let f6 = equal-and (length (t .row)) n _ (f5 .1) in
     record {
-      tall = leb-true m 1024 (c .0);
-      wide = leb-true n 1024 (c .1);
+      tall = leb-true m mostEntries (c .0);
+      wide = leb-true n mostEntries (c .1);
       samples-long = f1 .0;
       us-long = f2 .0;
       vs-long = f3 .0;
@@ -62,40 +57,40 @@ fitting m n a t z =
       column-long = eqb-true _ _ (f6 .1);
     }
 
-answered-refused : (number : ℕ) (r : Report) → (number ≡ 0 → ⊥) → answered number r ≡ Refused number
-answered-refused zero r h = absurd (h refl)
-answered-refused (suc n) r h = refl
+refused-told : (number : ℕ) (r : Report) → (number ≡ 0 → ⊥) → answer number r ≡ told (Refused number)
+refused-told zero r h = absurd (h refl)
+refused-told (suc n) r h = refl
 
 module _ (m n : ℕ) (a : List Float) (epsilon : Float) (t : Memory) (number : ℕ) (e : number ≡ acaNumber m n (lengths a t)) where
-  pub refused : (number ≡ 0 → ⊥) → call (Refused number) t ≡ acaCall m n a epsilon t
+  pub refused : (number ≡ 0 → ⊥) → call (told (Refused number)) t ≡ acaCall m n a epsilon t
   unfolding acaCall
   refused h =
       let found = laid (approximation m n a epsilon t .found) t in
-      rw (← e, left-refused number found t h, answered-refused number (report (approximation m n a epsilon t)) h)
+      rw (← e, left-refused number found t h, refused-told number (report (approximation m n a epsilon t)) h)
 
   module _ (z : number ≡ 0) where
     f : Fitting m n a t
     f = fitting m n a t (sym e ∙ z)
 
-    pub begun : Begun (length a) t (replicate 1024 1) (replicate 1024 1)
-    begun =
+    pub begun : (rows columns : List ℕ) → rows ≡ allOn → columns ≡ allOn → Begun (length a) t rows columns
+    begun rows columns on on' =
         record {
           sizes =
               record {
                 tall = rw (f .column-long) (f .tall);
                 wide = rw (f .row-long) (f .wide);
                 block = rw (f .row-long, f .column-long, f .samples-long) (omega arith);
-                left = rw (f .rows-long, f .column-long, f .us-long) (omega arith);
-                right = rw (f .rows-long, f .row-long, f .vs-long) (omega arith);
-                lists = f .columns-long ∙ sym (f .rows-long);
+                u-room = rw (f .columns-long, f .column-long, f .us-long) (omega arith);
+                v-room = rw (f .columns-long, f .row-long, f .vs-long) (omega arith);
               };
+          lists = f .columns-long ∙ sym (f .rows-long);
           short = rw (f .rows-long, f .column-long) (min-le-left m n);
           narrow = rw (f .rows-long, f .row-long) (min-le-right m n);
-          rows-marked = none-read;
-          columns-marked = none-read;
+          rows-marked = rw on marks-none;
+          columns-marked = rw on' marks-none;
         }
 
-    pub finished : (r : Report) (t' : Memory) → Ran (ran a (times epsilon epsilon) t) t r t' → call (Done r) t' ≡ acaCall m n a epsilon t
+    pub finished : (r : Report) (t' : Memory) → Ran (ran a (times epsilon epsilon) t) t r t' → call (told (Done r)) t' ≡ acaCall m n a epsilon t
     unfolding acaCall approximation
     finished r t' h =
         let e' = run (min m n) (blockOf m n a) (times epsilon epsilon) begin (start t) in

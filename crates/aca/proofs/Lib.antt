@@ -1,3 +1,4 @@
 pub mod Repeated
 pub mod Answers
+pub mod Facts
 pub mod Determined

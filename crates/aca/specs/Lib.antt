@@ -1,2 +1,4 @@
+pub mod Answers
 pub mod Runs
+pub mod Facts
 pub mod Working

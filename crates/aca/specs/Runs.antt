@@ -1,21 +1,20 @@
 -- Cross approximation, the run: steps from row 0 on, at most as many as the block has rows or columns; its report; and the call.
 use Prim.Native.Nat.{ℕ, zero, suc, _*_, min}
 use mathlib.Core.Bool.{Bool, _&&_}
+use mathlib.Core.Option.{Option}
 use mathlib.Core.List.{List, []}
 use lib.Dec.{eqb, leb}
 use lib.Ieee.{Float}
 use lib.ListN.{length}
 use Rattle.common.specs.Floats.{times, zero₆₄}
-use Rattle.common.specs.Refusals.{noCount, wrongLength, unless, left}
-use Rattle.steps.specs.Crosses.{Block, Found, found, usedUp, step}
-use Rattle.steps.specs.Memories.{Memory, laid, blockOf}
-use Rattle.steps.specs.declared.Progress.{Progress}
-use Rattle.steps.specs.declared.Step.{Step}
-use Rattle.steps.specs.declared.Step.the-variants.{More, Stop}
+use Rattle.common.specs.Refusals.{noCount, wrongLength, unless, left, mostEntries, answer}
+use Rattle.aca_steps.specs.Crosses.{Block, Found, found, usedUp, step}
+use Rattle.aca_steps.specs.Memories.{Memory, laid, blockOf}
+use Rattle.aca_steps.specs.declared.Progress.{Progress}
+use Rattle.aca_steps.specs.declared.Step.{Step}
+use Rattle.aca_steps.specs.declared.Step.the-variants.{More, Stop}
 use Rattle.aca.specs.declared.Lengths.{Lengths}
 use Rattle.aca.specs.declared.Report.{Report}
-use Rattle.aca.specs.declared.Approximation.{Approximation}
-use Rattle.aca.specs.declared.Approximation.the-variants.{Refused, Done}
 
 -- THE RUN
 
@@ -29,13 +28,13 @@ abbrev pub finish : (stop : ℕ) → Progress → Found → Finish
 finish w s f = record { stop = w; state = s; found = f }
 
 -- after a step: the rest of the run, or its end
-unfoldable pub after : Step → Found → (rest : Progress → Found → Finish) → Finish
-after (More s) f rest = rest s f
-after (Stop w s) f rest = finish w s f
+unfoldable pub followed : Step → Found → (rest : Progress → Found → Finish) → Finish
+followed (More s) f rest = rest s f
+followed (Stop w s) f rest = finish w s f
 
 unfoldable pub run : (steps : ℕ) → Block → (tolerance : Float) → Progress → Found → Finish
 run zero b tolerance s f = finish usedUp s f
-run (suc n) b tolerance s f = let o = step b tolerance s f in after (o .answer) (o .found) (run n b tolerance)
+run (suc n) b tolerance s f = let o = step b tolerance s f in followed (o .answer) (o .found) (run n b tolerance)
 
 abbrev pub begin : Progress
 begin = record { estimate = zero₆₄; cross = zero₆₄; rank = 0; next = 0 }
@@ -68,7 +67,7 @@ fits m n l =
     && (eqb (l .«column_list») (min m n) && (eqb (l .row) n && eqb (l .column) m)))))
 
 unfoldable pub acaNumber : (m n : ℕ) → Lengths → ℕ
-acaNumber m n l = unless (leb m 1024 && leb n 1024) noCount (unless (fits m n l) wrongLength 0)
+acaNumber m n l = unless (leb m mostEntries && leb n mostEntries) noCount (unless (fits m n l) wrongLength 0)
 
 -- nothing is found yet, and the row and the column at hand are as lent
 abbrev pub start : Memory → Found
@@ -77,20 +76,16 @@ start t = found [] [] [] [] (t .row) (t .column)
 unfoldable pub approximation : (m n : ℕ) → (samples : List Float) → (epsilon : Float) → Memory → Finish
 approximation m n a epsilon t = run (min m n) (blockOf m n a) (times epsilon epsilon) begin (start t)
 
-abbrev pub answered : (number : ℕ) → Report → Approximation
-answered zero r = Done r
-answered (suc n) r = Refused (suc n)
-
--- the answer of a call, and the memory after it
+-- what a call tells, a number and a report, and the memory after it
 pub record Call : Type 0 where
-  pub answer : Approximation
+  pub tells : ℕ × Option Report
   pub leaves : Memory
 
-abbrev pub call : Approximation → Memory → Call
-call r t = record { answer = r; leaves = t }
+abbrev pub call : ℕ × Option Report → Memory → Call
+call r t = record { tells = r; leaves = t }
 
 unfoldable pub acaCall : (m n : ℕ) → (samples : List Float) → (epsilon : Float) → Memory → Call
 acaCall m n a epsilon t =
     let e = approximation m n a epsilon t in
     let number = acaNumber m n (lengths a t) in
-    call (answered number (report e)) (left number (laid (e .found) t) t)
+    call (answer number (report e)) (left number (laid (e .found) t) t)

@@ -4,14 +4,15 @@ use mathlib.Core.Path.{_≡_}
 use mathlib.Core.List.{List, []}
 use lib.Ieee.{Float}
 use lib.ListN.{length}
-use Rattle.steps.specs.Memories.{Memory, laid, blockOf}
-use Rattle.steps.specs.Standing.{Marks, Sizes}
+use Rattle.aca_steps.specs.Memories.{Memory, laid, blockOf}
+use Rattle.aca_steps.specs.Standing.{Marks, Sizes}
 use Rattle.aca.specs.Runs.{Finish, run, begin, report, start}
 use Rattle.aca.specs.declared.Report.{Report}
 
--- a run that begins: its lists have no more places than the block has rows or columns, and nothing is read
+-- a run that begins: its lists have as many places each, and no more than the block has rows or columns; and nothing is read
 pub record Begun (samples : ℕ) (t : Memory) (rows columns : List ℕ) : Type 0 where
   pub sizes : Sizes samples t
+  pub lists : length (t .«column-list») ≡ length (t .«row-list»)
   pub short : length (t .«row-list») ≤ length (t .column)
   pub narrow : length (t .«row-list») ≤ length (t .row)
   pub rows-marked : Marks rows []
@@ -22,6 +23,6 @@ abbrev pub ran : (samples : List Float) → (tolerance : Float) → Memory → F
 ran a tolerance t = run (length (t .«row-list»)) (blockOf (length (t .column)) (length (t .row)) a) tolerance begin (start t)
 
 -- a run in memory: it reports what the rule's does, and leaves what that found
-pub record Ran (e : Finish) (t : Memory) (told : Report) (after : Memory) : Type 0 where
-  pub report-is : told ≡ report e
+pub record Ran (e : Finish) (t : Memory) (reported : Report) (after : Memory) : Type 0 where
+  pub report-is : reported ≡ report e
   pub memory-is : after ≡ laid (e .found) t

@@ -1,12 +1,13 @@
 // The refusals of the cross approximation's call.
 ghost use mathlib.Core.Path.{_≡_};
 ghost use Prim.Native.Nat.{_≤_};
+ghost use Rattle.common.specs.Refusals.{mostEntries};
 ghost use Rattle.aca.specs.Runs.{fits as fitsOf, acaNumber};
 use crate::Lengths;
 
 // Every buffer has its length.
 fn fits(rows: usize, columns: usize, lent: Lengths) -> bool
-    requires { ⌜ (rows ≤ 1024) × (columns ≤ 1024) ⌝ }
+    requires { ⌜ (rows ≤ mostEntries) × (columns ≤ mostEntries) ⌝ }
     ensures { λ r. ⌜ r ≡ fitsOf rows columns lent ⌝ }
 {
     let most = common::least(rows, columns);
@@ -35,10 +36,10 @@ fn fits(rows: usize, columns: usize, lent: Lengths) -> bool
 pub(crate) fn aca_number(rows: usize, columns: usize, lent: Lengths) -> u8
     ensures { λ r. ⌜ r ≡ acaNumber rows columns lent ⌝ }
 {
-    if 1024 < rows {
+    if common::MOST_ENTRIES < rows {
         return common::NO_COUNT;
     }
-    if 1024 < columns {
+    if common::MOST_ENTRIES < columns {
         return common::NO_COUNT;
     }
     if fits(rows, columns, lent) {

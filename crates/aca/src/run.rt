@@ -1,19 +1,20 @@
 // Cross approximation of a block: the run of its steps, and the call.
 ghost use mathlib.Core.Path.{_≡_};
 ghost use lib.ListN.{length};
-ghost use Rattle.steps.specs.Memories.{memory};
+ghost use Rattle.aca_steps.specs.Memories.{behind};
+ghost use Rattle.aca.specs.Answers.{told};
 ghost use Rattle.aca.specs.Runs.{reported, call, acaCall};
 ghost use Rattle.aca.specs.Working.{Begun, ran, Ran};
 use crate::Approximation;
 use crate::Lengths;
 use crate::Report;
 use crate::limits::aca_number;
-use steps::Progress;
-use steps::Step;
-use steps::advance;
-
-// Why a run ends where no step stops it: there are as many terms as the block has rows or columns.
-const USED_UP: u8 = 3;
+use aca_lines::Flags;
+use aca_lines::all_on;
+use aca_steps::Progress;
+use aca_steps::Step;
+use aca_steps::USED_UP;
+use aca_steps::advance;
 
 fn report(stop: u8, s: Progress, rows_read: usize) -> Report
     ensures { λ r. ⌜ r ≡ reported stop s «rows_read» ⌝ }
@@ -26,23 +27,24 @@ fn report(stop: u8, s: Progress, rows_read: usize) -> Report
     }
 }
 
-// At most as many steps as the lists have places.
+// At most as many steps as the lists have places. `read` counts the rows read.
 fn run(
     samples: &[f64],
     tolerance: f64,
     u: &mut [f64],
     v: &mut [f64],
-    row_flags: &mut [u8; 1024],
-    column_flags: &mut [u8; 1024],
+    row_flags: &mut Flags,
+    column_flags: &mut Flags,
     row_list: &mut [u16],
     column_list: &mut [u16],
     row: &mut [f64],
     column: &mut [f64],
 ) -> Report
-    requires { ⌜ Begun (length (now samples)) (memory (now u) (now v) (now «row_list») (now «column_list») (now row) (now column)) (now «row_flags») (now «column_flags») ⌝ }
-    ensures { λ r. ⌜ Ran (ran (now (samples .entry)) tolerance (memory (now (u .entry)) (now (v .entry)) (now («row_list» .entry)) (now («column_list» .entry)) (now (row .entry)) (now (column .entry))))
-        (memory (now (u .entry)) (now (v .entry)) (now («row_list» .entry)) (now («column_list» .entry)) (now (row .entry)) (now (column .entry)))
-        r (memory (now (u .exit)) (now (v .exit)) (now («row_list» .exit)) (now («column_list» .exit)) (now (row .exit)) (now (column .exit))) ⌝ }
+    requires { ⌜ Begun (length (now samples)) (behind u v «row_list» «column_list» row column) (now «row_flags») (now «column_flags») ⌝ }
+    ensures { λ r. ⌜ Ran (ran (now (samples .entry)) tolerance
+        (behind (u .entry) (v .entry) («row_list» .entry) («column_list» .entry) (row .entry) (column .entry)))
+        (behind (u .entry) (v .entry) («row_list» .entry) («column_list» .entry) (row .entry) (column .entry))
+        r (behind (u .exit) (v .exit) («row_list» .exit) («column_list» .exit) (row .exit) (column .exit)) ⌝ }
 {
     let most = row_list.len();
     let mut s = Progress {
@@ -51,12 +53,13 @@ fn run(
         rank: 0,
         next: 0,
     };
-    let mut k = 0;
-    while k < most {
+    let mut read = 0;
+    while read < most {
         let made = advance(
             samples,
             tolerance,
             s,
+            read,
             u,
             v,
             row_flags,
@@ -71,12 +74,12 @@ fn run(
                 s = after;
             }
             Step::Stop(why, after) => {
-                return report(why, after, k + 1);
+                return report(why, after, read + 1);
             }
         }
-        k += 1;
+        read += 1;
     }
-    report(USED_UP, s, most)
+    report(USED_UP, s, read)
 }
 
 // The block as a sum of products of columns, U by V, up to the tolerance epsilon; and the rows and columns that were read for it.
@@ -92,8 +95,9 @@ pub fn aca_partial_pivoting(
     row: &mut [f64],
     column: &mut [f64],
 ) -> Approximation
-    ensures { λ r. ⌜ call r (memory (now (u .exit)) (now (v .exit)) (now («row_list» .exit)) (now («column_list» .exit)) (now (row .exit)) (now (column .exit)))
-        ≡ acaCall rows columns (now (samples .entry)) epsilon (memory (now (u .entry)) (now (v .entry)) (now («row_list» .entry)) (now («column_list» .entry)) (now (row .entry)) (now (column .entry))) ⌝ }
+    ensures { λ r. ⌜ call (told r) (behind (u .exit) (v .exit) («row_list» .exit) («column_list» .exit) (row .exit) (column .exit))
+        ≡ acaCall rows columns (now (samples .entry)) epsilon
+        (behind (u .entry) (v .entry) («row_list» .entry) («column_list» .entry) (row .entry) (column .entry)) ⌝ }
 {
     let lent = Lengths {
         samples: samples.len(),
@@ -108,8 +112,8 @@ pub fn aca_partial_pivoting(
     if number != 0 {
         return Approximation::Refused(number);
     }
-    let mut row_flags = [1u8; 1024];
-    let mut column_flags = [1u8; 1024];
+    let mut row_flags = all_on();
+    let mut column_flags = all_on();
     Approximation::Done(run(
         samples,
         epsilon * epsilon,

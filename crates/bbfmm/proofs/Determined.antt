@@ -15,7 +15,7 @@ use Rattle.transfer.specs.Operators.{operatorsCall}
 use Rattle.transfer.specs.Tensor.{transferCall}
 use Rattle.points.specs.Points.{targetCall, sourceCall}
 use Rattle.coefficients.specs.Coefficients as coefficients
-use Rattle.steps.specs.Memories.{Memory}
+use Rattle.aca_steps.specs.Memories.{Memory}
 use Rattle.bbfmm.specs.Told.{lookUpTold, referenceTold, argmaxTold, cutoffTold, Crossed, crossTold}
 
 -- TURNING A BLOCK

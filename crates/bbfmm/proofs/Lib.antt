@@ -1,4 +1,5 @@
 pub mod Lengths
 pub mod Numbers
+pub mod Places
 pub mod Reports
 pub mod Determined

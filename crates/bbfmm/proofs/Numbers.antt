@@ -1,8 +1,6 @@
--- An enum's answer says the call's number and its values: looking up, reference vectors, places. Assumes nothing.
-use mathlib.Core.Path.{_≡_, refl, sym, ap, _∙_}
-use mathlib.Core.List.{List, [], _∷_}
-use Prim.Native.Nat.{ℕ, zero, suc}
-use native.Mathlib.Omega.{arith}
+-- An enum's answer says the call's number and its values: looking up, reference vectors. Assumes nothing.
+use mathlib.Core.Path.{_≡_, sym, ap, _∙_}
+use Prim.Native.Nat.{ℕ}
 use lib.IntN.{ℤ}
 use mir.Syntax.{w32}
 use mir.Val.{toZ, ofZ, SFits}
@@ -16,10 +14,6 @@ use Rattle.turn.specs.declared.Reference.{Reference}
 use Rattle.turn.specs.declared.Reference.the-variants as refer
 use Rattle.turn.specs.Vectors.{sizes}
 use Rattle.turn.specs.LookUps.{entries, lookUpNumber, knownOf, toldLookUp, lookUp, referenceNumber, referenceAt, toldReference, referenceCall}
-use Rattle.choices.specs.Places.{placed}
-use Rattle.bbfmm.specs.Answers.{told}
-use Rattle.bbfmm.specs.Working.{placeTold}
-use Rattle.bbfmm.proofs.Lengths.{told-refused}
 
 -- LOOKING UP
 
@@ -48,11 +42,3 @@ module _ (D i : ℕ) (r : Reference) (told : toldReference r ≡ referenceCall D
   pub reference-found : (w : Vector) → r ≡ refer.Found w → (referenceNumber D i ≡ 0) × (w ≡ referenceAt D i)
   unfolding referenceCall
   reference-found w e = done-by _ _ w (sym (ap toldReference e) ∙ told)
-
--- PLACES
-
--- what is told of a place, or of a refusal, is told of the number and the place
-pub place-told : (n k : ℕ) (lent : List ℕ) → placeTold (placed n k) lent ≡ told n (k ∷ []) lent
-unfolding placeTold
-place-told zero k lent = refl
-place-told (suc n) k lent = told-refused (k ∷ []) lent (suc n) _ refl (λ z. omega arith)

@@ -2,17 +2,19 @@
 use mathlib.Core.Path.{_≡_, refl, ap, _∙_}
 use mathlib.Core.Bool.{true, false, _&&_}
 use mathlib.Core.List.{List, [], _∷_}
+use mathlib.Core.Option.{Option}
 use Prim.Native.Nat.{ℕ, zero, suc}
 use native.Mathlib.Omega.{arith}
 use lib.Dec.{leb}
 use lib.Ieee.{Float}
 use lib.ListN.{length}
 use borrow.Author.Tests.{eq-eqb, ne-eqb}
-use Rattle.common.specs.Refusals.{left, lower}
+use Rattle.common.specs.Refusals.{left, lower, mostEntries, answer}
 use Rattle.common.proofs.Cases.{by-bool}
 use Rattle.common.proofs.Limits.{left-done, left-refused}
-use Rattle.steps.specs.Memories.{Memory, laid}
-use Rattle.aca.specs.Runs.{fits, report, lengths, acaNumber, approximation, answered, Call, call, acaCall}
+use Rattle.aca_steps.specs.Memories.{Memory, laid}
+use Rattle.aca.specs.Runs.{fits, report, lengths, acaNumber, approximation, Call, call, acaCall}
+use Rattle.aca.specs.Answers.{told}
 use Rattle.aca.specs.declared.Report.{Report}
 use Rattle.aca.specs.declared.Approximation.{Approximation}
 use Rattle.bbfmm.specs.Answers.{withLength}
@@ -22,7 +24,7 @@ use Rattle.bbfmm.proofs.Lengths.{with-fit}
 
 -- what is told of a report, or of a refusal, is told of the number and the report
 report-told : (n : ℕ) (r : Report) (c : List ℕ) (e : List Float) →
-    reportTold (answered n r) c e ≡ (n, left n (countsOf r) c, left n (r .estimate ∷ []) e)
+    reportTold (answer n r) c e ≡ (n, left n (countsOf r) c, left n (r .estimate ∷ []) e)
 unfolding reportTold
 report-told zero r c e = rw (left-done 0 (countsOf r) c refl, left-done 0 (r .estimate ∷ []) e refl)
 report-told (suc n) r c e =
@@ -45,11 +47,11 @@ module _ (m n : ℕ) (a : List Float) (epsilon : Float) (t : Memory) (c : List �
   unfit-is : reportFits c e ≡ false → unfitNumber m n ≡ crossNumber m n a t c e
   unfolding unfitNumber crossNumber withLength lower acaNumber
   unfit-is h =
-      rw h (by-bool (leb m 1024 && leb n 1024) (λ l. rw l (by-bool (fits m n (lengths a t)) (λ f. rw f) (λ f. rw f))) (λ l. rw l))
+      rw h (by-bool (leb m mostEntries && leb n mostEntries) (λ l. rw l (by-bool (fits m n (lengths a t)) (λ f. rw f) (λ f. rw f))) (λ l. rw l))
 
   unfit-refuses : unfitNumber m n ≡ 0 → ⊥
   unfolding unfitNumber
-  unfit-refuses = by-bool (leb m 1024 && leb n 1024) (λ l. rw l (λ z. omega arith)) (λ l. rw l (λ z. omega arith))
+  unfit-refuses = by-bool (leb m mostEntries && leb n mostEntries) (λ l. rw l (λ z. omega arith)) (λ l. rw l (λ z. omega arith))
 
   pub cross-unfit : (r : ℕ) → r ≡ unfitNumber m n → reportFits c e ≡ false → crossed r t c e ≡ crossTold m n a epsilon t c e
   unfolding crossTold
@@ -67,15 +69,15 @@ module _ (m n : ℕ) (a : List Float) (epsilon : Float) (t : Memory) (c : List �
 
   -- slices that fit: the answer of the run, in numbers
   pub cross-fit : (r : Approximation) (t' : Memory) (number : ℕ) (c' : List ℕ) (e' : List Float) → reportFits c e ≡ true →
-      call r t' ≡ acaCall m n a epsilon t → (number, c', e') ≡ reportTold r c e → crossed number t' c' e' ≡ crossTold m n a epsilon t c e
+      call (told r) t' ≡ acaCall m n a epsilon t → (number, c', e') ≡ reportTold (told r) c e → crossed number t' c' e' ≡ crossTold m n a epsilon t c e
   unfolding acaCall crossTold crossNumber
   cross-fit r t' number c' e' f h g =
       let own = acaNumber m n (lengths a t) in
       let end = approximation m n a epsilon t in
       let same : crossNumber m n a t c e ≡ own = rw f (with-fit own) in
-      let answer : r ≡ answered own (report end) = ap (λ (x : Call). x .answer) h in
+      let tells : told r ≡ answer own (report end) = ap (λ (x : Call). x .tells) h in
       let leaves : t' ≡ left own (laid (end .found) t) t = ap (λ (x : Call). x .leaves) h in
       let whole : _≡_ {A = ℕ × List ℕ × List Float} (number, c', e')
       (own, left own (countsOf (report end)) c, left own (report end .estimate ∷ []) e) =
-      g ∙ ap (λ (x : Approximation). reportTold x c e) answer ∙ report-told own (report end) c e in
+      g ∙ ap (λ (x : ℕ × Option Report). reportTold x c e) tells ∙ report-told own (report end) c e in
       rw (same, leaves) (ap (λ (x : ℕ × List ℕ × List Float). crossed (x .0) (left own (laid (end .found) t) t) (x .1) (x .2)) whole)

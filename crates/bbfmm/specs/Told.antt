@@ -11,10 +11,10 @@ use Rattle.turn.specs.declared.Vector.{Vector}
 use Rattle.turn.specs.declared.Known.{Known}
 use Rattle.turn.specs.Vectors.{sizes}
 use Rattle.turn.specs.LookUps.{entries, lookUpNumber, knownOf, referenceNumber, referenceAt}
-use Rattle.lines.specs.Largest.{argmax, counts}
+use Rattle.aca_lines.specs.Largest.{argmax, counts}
 use Rattle.choices.specs.Argmax.{argmaxNumber}
 use Rattle.choices.specs.Cutoff.{cutoff, cutoffNumber}
-use Rattle.steps.specs.Memories.{Memory, laid}
+use Rattle.aca_steps.specs.Memories.{Memory, laid}
 use Rattle.aca.specs.Runs.{report, lengths, acaNumber, approximation}
 use Rattle.aca.specs.declared.Report.{Report}
 use Rattle.bbfmm.specs.Answers.{withLength, told}
@@ -59,7 +59,8 @@ pub record Crossed : Type 0 where
 abbrev pub crossed : (number : ℕ) → Memory → (counts : List ℕ) → (estimate : List Float) → Crossed
 crossed n t c e = record { number = n; leaves = t; counts = c; estimate = e }
 
-unfoldable pub crossTold : (m n : ℕ) → (samples : List Float) → (epsilon : Float) → Memory → (counts : List ℕ) → (estimate : List Float) → Crossed
+unfoldable pub crossTold : (m n : ℕ) → (samples : List Float) → (epsilon : Float) → Memory → (counts : List ℕ) →
+    (estimate : List Float) → Crossed
 crossTold m n a epsilon t c e =
     let f = approximation m n a epsilon t in
     let number = crossNumber m n a t c e in

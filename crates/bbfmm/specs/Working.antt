@@ -2,27 +2,31 @@
 use Prim.Native.Nat.{ℕ}
 use mathlib.Core.Bool.{_&&_}
 use mathlib.Core.List.{List, [], _∷_}
+use mathlib.Core.Option.{Option, none, some}
 use lib.Dec.{eqb, leb}
 use lib.Ieee.{Float}
 use lib.ListN.{length}
-use Rattle.common.specs.Refusals.{noCount, wrongLength, unless}
-use Rattle.choices.specs.declared.Place.{Place}
-use Rattle.choices.specs.declared.Place.the-variants as place
-use Rattle.aca.specs.declared.Approximation.{Approximation}
-use Rattle.aca.specs.declared.Approximation.the-variants as made
+use Rattle.common.specs.Refusals.{noCount, wrongLength, unless, mostEntries}
+use Rattle.aca.specs.declared.Report.{Report}
 use Rattle.bbfmm.specs.Answers.{withLength, told}
 use Rattle.bbfmm.specs.Told.{countsOf}
 
--- a place, or a refusal
-unfoldable pub placeTold : Place → (answer : List ℕ) → ℕ × List ℕ
-placeTold (place.Refused n) answer = (withLength n (eqb (length answer) 1), answer)
-placeTold (place.At k) answer = told 0 (k ∷ []) answer
+-- what a call tells, a number and perhaps a place, in a lent answer
+abbrev pub placeOrNone : (number : ℕ) → Option ℕ → (answer : List ℕ) → ℕ × List ℕ
+placeOrNone n none answer = (withLength n (eqb (length answer) 1), answer)
+placeOrNone n (some k) answer = told n (k ∷ []) answer
 
--- a report, or a refusal, in slices that fit
-unfoldable pub reportTold : Approximation → (counts : List ℕ) → (estimate : List Float) → ℕ × List ℕ × List Float
-reportTold (made.Refused n) c e = (n, c, e)
-reportTold (made.Done r) c e = (0, countsOf r, r .estimate ∷ [])
+unfoldable pub placeTold : ℕ × Option ℕ → (answer : List ℕ) → ℕ × List ℕ
+placeTold x = placeOrNone (x .0) (x .1)
+
+-- a number and perhaps a report, in slices that fit
+abbrev pub reportOrNone : (number : ℕ) → Option Report → (counts : List ℕ) → (estimate : List Float) → ℕ × List ℕ × List Float
+reportOrNone n none c e = (n, c, e)
+reportOrNone n (some r) c e = (n, countsOf r, r .estimate ∷ [])
+
+unfoldable pub reportTold : ℕ × Option Report → (counts : List ℕ) → (estimate : List Float) → ℕ × List ℕ × List Float
+reportTold x = reportOrNone (x .0) (x .1)
 
 -- the number of a call whose report does not fit: too many rows or columns are refused first
 unfoldable pub unfitNumber : (m n : ℕ) → ℕ
-unfitNumber m n = unless (leb m 1024 && leb n 1024) noCount wrongLength
+unfitNumber m n = unless (leb m mostEntries && leb n mostEntries) noCount wrongLength

@@ -1,7 +1,8 @@
 // Cross approximation, with its report in two lent slices.
 ghost use mathlib.Core.Path.{_≡_};
 ghost use lib.ListN.{length};
-ghost use Rattle.steps.specs.Memories.{memory};
+ghost use Rattle.aca.specs.Answers.{told};
+ghost use Rattle.aca_steps.specs.Memories.{behind};
 ghost use Rattle.bbfmm.specs.Told.{crossed, crossTold};
 ghost use Rattle.bbfmm.specs.Working.{unfitNumber, reportTold};
 use aca::Approximation;
@@ -11,10 +12,10 @@ use aca::aca_partial_pivoting;
 fn unfit_number(rows: usize, columns: usize) -> u8
     ensures { λ r. ⌜ r ≡ unfitNumber rows columns ⌝ }
 {
-    if 1024 < rows {
+    if common::MOST_ENTRIES < rows {
         return common::NO_COUNT;
     }
-    if 1024 < columns {
+    if common::MOST_ENTRIES < columns {
         return common::NO_COUNT;
     }
     common::WRONG_LENGTH
@@ -23,7 +24,8 @@ fn unfit_number(rows: usize, columns: usize) -> u8
 // A report in the lent slices, or a refusal.
 fn tell_report(made: Approximation, counts: &mut [usize], estimate: &mut [f64]) -> u8
     requires { ⌜ (length (now counts) ≡ 3) × (length (now estimate) ≡ 1) ⌝ }
-    ensures { λ r. ⌜ (r, now (counts .exit), now (estimate .exit)) ≡ reportTold made (now (counts .entry)) (now (estimate .entry)) ⌝ }
+    ensures { λ r. ⌜ (r, now (counts .exit), now (estimate .exit))
+        ≡ reportTold (told made) (now (counts .entry)) (now (estimate .entry)) ⌝ }
 {
     match made {
         Approximation::Refused(number) => number,
@@ -53,8 +55,11 @@ pub extern "C" fn bbfmm_aca_partial_pivoting(
     counts: &mut [usize],
     estimate: &mut [f64],
 ) -> u8
-    ensures { λ r. ⌜ crossed r (memory (now (u .exit)) (now (v .exit)) (now («row_list» .exit)) (now («column_list» .exit)) (now (row .exit)) (now (column .exit))) (now (counts .exit)) (now (estimate .exit))
-        ≡ crossTold rows columns (now (samples .entry)) epsilon (memory (now (u .entry)) (now (v .entry)) (now («row_list» .entry)) (now («column_list» .entry)) (now (row .entry)) (now (column .entry))) (now (counts .entry)) (now (estimate .entry)) ⌝ }
+    ensures { λ r. ⌜ crossed r (behind (u .exit) (v .exit) («row_list» .exit) («column_list» .exit) (row .exit) (column .exit))
+        (now (counts .exit)) (now (estimate .exit))
+        ≡ crossTold rows columns (now (samples .entry)) epsilon
+        (behind (u .entry) (v .entry) («row_list» .entry) («column_list» .entry) (row .entry) (column .entry))
+        (now (counts .entry)) (now (estimate .entry)) ⌝ }
 {
     if counts.len() != 3 {
         return unfit_number(rows, columns);

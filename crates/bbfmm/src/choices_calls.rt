@@ -1,5 +1,6 @@
 // Masked argmax and rank cutoff.
 ghost use mathlib.Core.Path.{_≡_};
+ghost use Rattle.choices.specs.Places.{told};
 ghost use Rattle.bbfmm.specs.Told.{argmaxTold, cutoffTold};
 ghost use Rattle.bbfmm.specs.Working.{placeTold};
 use crate::answers::with_length;
@@ -9,7 +10,7 @@ use choices::calculate_singular_values_cutoff;
 
 // A place in the lent answer, or a refusal.
 fn tell_place(found: Place, place: &mut [usize]) -> u8
-    ensures { λ r. ⌜ (r, now (place .exit)) ≡ placeTold found (now (place .entry)) ⌝ }
+    ensures { λ r. ⌜ (r, now (place .exit)) ≡ placeTold (told found) (now (place .entry)) ⌝ }
 {
     let is_fit = place.len() == 1;
     match found {

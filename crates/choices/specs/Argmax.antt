@@ -2,21 +2,22 @@
 use Prim.Native.Nat.{ℕ}
 use mathlib.Core.Bool.{Bool}
 use mathlib.Core.List.{List}
+use mathlib.Core.Option.{Option}
 use lib.Dec.{eqb, leb}
 use lib.Ieee.{Float}
 use lib.ListN.{length, getD}
-use Rattle.common.specs.Refusals.{noCount, wrongLength, noMask, unless}
+use Rattle.common.specs.Refusals.{noCount, wrongLength, noMask, unless, mostEntries, answer}
 use Rattle.common.specs.Tests.{each}
-use Rattle.lines.specs.Largest.{argmax, counts}
-use Rattle.choices.specs.declared.Place.{Place}
-use Rattle.choices.specs.Places.{placed}
+use Rattle.aca_lines.specs.Largest.{argmax, counts}
 
 -- each byte is 0 or 1
 unfoldable pub isMask : (mask : List ℕ) → Bool
 isMask mask = each (length mask) (λ k. leb (getD mask k 0) 1)
 
 unfoldable pub argmaxNumber : (entries : List Float) → (mask : List ℕ) → ℕ
-argmaxNumber l mask = unless (leb (length l) 1024) noCount (unless (eqb (length mask) (length l)) wrongLength (unless (isMask mask) noMask 0))
+argmaxNumber l mask =
+    unless (leb (length l) mostEntries) noCount
+    (unless (eqb (length mask) (length l)) wrongLength (unless (isMask mask) noMask 0))
 
-unfoldable pub argmaxCall : (entries : List Float) → (mask : List ℕ) → Place
-argmaxCall l mask = placed (argmaxNumber l mask) (argmax l (counts mask))
+unfoldable pub argmaxCall : (entries : List Float) → (mask : List ℕ) → ℕ × Option ℕ
+argmaxCall l mask = answer (argmaxNumber l mask) (argmax l (counts mask))

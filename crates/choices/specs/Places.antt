@@ -1,8 +1,9 @@
--- A place, or a refusal: the paper's number and value as cases of the enum. Number 0 is At, any other Refused.
-use Prim.Native.Nat.{ℕ, zero, suc}
+-- What an answer tells: document 01's number, and the place that was found.
+use Prim.Native.Nat.{ℕ}
+use mathlib.Core.Option.{Option, none, some}
 use Rattle.choices.specs.declared.Place.{Place}
 use Rattle.choices.specs.declared.Place.the-variants.{At, Refused}
 
-abbrev pub placed : (number place : ℕ) → Place
-placed zero k = At k
-placed (suc n) k = Refused (suc n)
+abbrev pub told : Place → ℕ × Option ℕ
+told (Refused n) = (n, none)
+told (At k) = (0, some k)

@@ -3,7 +3,7 @@ use mathlib.Core.Path.{refl}
 use lib.Count.{trailingZeros}
 use lib.Ieee.{add, sub, mul, div, neg, lt, le, ofBits, ofFields, ofInt, odd, units, round, sum, size as digits, span, climb}
 use Rattle.common.specs.Digits.{fromDigits, digit}
-use Rattle.common.specs.Floats.{sums}
+use Rattle.common.specs.Floats.{size, sums}
 use Rattle.common.specs.Matrices.{columnMajor}
 use Rattle.common.specs.Refusals.{left}
 use Rattle.common.specs.Tests.{each, those, count}
@@ -14,13 +14,13 @@ use Rattle.turn.specs.Tables.{tableNumber, tableCall}
 use Rattle.turn.specs.LookUps.{lookUpNumber, knownOf, lookUp}
 use Rattle.chebyshev.specs.Polynomials.{T, T′, polynomialsNumber, polynomialsCall}
 use Rattle.transfer.specs.Tensor.{passed, along, ends, transferNumber, transferred, transferCall}
-use Rattle.lines.specs.Largest.{size, best, argmax, counts}
+use Rattle.aca_lines.specs.Largest.{best, argmax, pivot, counts}
 use Rattle.choices.specs.Argmax.{isMask, argmaxNumber, argmaxCall}
-use Rattle.lines.specs.Lines.{residual, scaled, norm, cross}
-use Rattle.steps.specs.Crosses.{unread, rowRead, columnRead, grown, judged, stored, accepted, tried, step}
+use Rattle.aca_lines.specs.Lines.{residual, multiplied, norm, cross}
+use Rattle.aca_steps.specs.Crosses.{unread, rowRead, columnRead, grown, weighed, judged, stored, accepted, tried, step}
 use Rattle.choices.specs.Cutoff.{squares, firstBelow, cutoff, cutoffNumber, cutoffCall}
-use Rattle.steps.specs.Memories.{laid}
-use Rattle.aca.specs.Runs.{after, run, report, fits, acaNumber, approximation, acaCall}
+use Rattle.aca_steps.specs.Memories.{laid}
+use Rattle.aca.specs.Runs.{followed, run, report, fits, acaNumber, approximation, acaCall}
 use Rattle.fixed.specs.Results.{Fixed}
 
 pub fixed : Fixed

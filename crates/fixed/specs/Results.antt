@@ -3,6 +3,7 @@ use Prim.Native.Nat.{ℕ}
 use mathlib.Core.Path.{_≡_}
 use mathlib.Core.Bool.{true, false}
 use mathlib.Core.List.{List, [], _∷_}
+use mathlib.Core.Option.{some}
 use lib.IntN.{pos, negsuc}
 use lib.Ieee.{Float, neg, ofBits, binary64}
 use Rattle.common.specs.Floats.{float, zero₆₄, one₆₄, two₆₄, half₆₄}
@@ -14,10 +15,8 @@ use Rattle.chebyshev.specs.Polynomials.{polynomialsCall}
 use Rattle.transfer.specs.Tensor.{transferCall}
 use Rattle.choices.specs.Argmax.{argmaxCall}
 use Rattle.choices.specs.Cutoff.{cutoffCall}
-use Rattle.steps.specs.Memories.{Memory, memory}
+use Rattle.aca_steps.specs.Memories.{Memory, memory}
 use Rattle.aca.specs.Runs.{call, acaCall}
-use Rattle.choices.specs.declared.Place.the-variants.{At}
-use Rattle.aca.specs.declared.Approximation.the-variants.{Done}
 
 -- lists of two, three and four
 module _ {A : Type 0} where
@@ -61,26 +60,26 @@ pub record Fixed : Type 0 where
       transferCall 1 2 0 true (two one₆₄ (float 10)) (one₆₄ ∷ two₆₄ ∷ float 3 ∷ float 4 ∷ four a b c d) (two x x) (two x x)
       ≡ (0, two one₆₄ (float 10), two (float 21) (float 43))
   -- argmax of (1,-3,3): 1; with mask 1,0,1: 2
-  pub argmax-all : argmaxCall (three one₆₄ (neg (float 3)) (float 3)) (three 1 1 1) ≡ At 1
-  pub argmax-masked : argmaxCall (three one₆₄ (neg (float 3)) (float 3)) (three 1 0 1) ≡ At 2
+  pub argmax-all : argmaxCall (three one₆₄ (neg (float 3)) (float 3)) (three 1 1 1) ≡ (0, some 1)
+  pub argmax-masked : argmaxCall (three one₆₄ (neg (float 3)) (float 3)) (three 1 0 1) ≡ (0, some 2)
   -- cutoff: (4,3) with 0.5 gives 2, with 0.75 gives 1, with 2 gives 0; (1,1,1,1) with 0.5 gives 4; (0,0) gives 2
-  pub cutoff-half : cutoffCall (two (float 4) (float 3)) half₆₄ ≡ At 2
-  pub cutoff-three-quarters : cutoffCall (two (float 4) (float 3)) three-quarters ≡ At 1
-  pub cutoff-two : cutoffCall (two (float 4) (float 3)) two₆₄ ≡ At 0
-  pub cutoff-ones : cutoffCall (four one₆₄ one₆₄ one₆₄ one₆₄) half₆₄ ≡ At 4
-  pub cutoff-zeros : cutoffCall (two zero₆₄ zero₆₄) half₆₄ ≡ At 2
+  pub cutoff-half : cutoffCall (two (float 4) (float 3)) half₆₄ ≡ (0, some 2)
+  pub cutoff-three-quarters : cutoffCall (two (float 4) (float 3)) three-quarters ≡ (0, some 1)
+  pub cutoff-two : cutoffCall (two (float 4) (float 3)) two₆₄ ≡ (0, some 0)
+  pub cutoff-ones : cutoffCall (four one₆₄ one₆₄ one₆₄ one₆₄) half₆₄ ≡ (0, some 4)
+  pub cutoff-zeros : cutoffCall (two zero₆₄ zero₆₄) half₆₄ ≡ (0, some 2)
   -- rows (2,4),(1,2): epsilon 1 gives rank 1, U (4,2), V (0.5,1), estimate 25, stop 1
   pub cross-1 : (x : Float) (i : ℕ) →
       acaCall 2 2 (four two₆₄ one₆₄ (float 4) two₆₄) one₆₄ (lent x i)
-      ≡ call (Done (record { rank = 1; estimate = float 25; stop = 1; «rows_read» = 1 }))
+      ≡ call (0, some (record { rank = 1; estimate = float 25; stop = 1; «rows_read» = 1 }))
       (memory (four (float 4) two₆₄ x x) (four half₆₄ one₆₄ x x) (two 0 i) (two 1 i) (two half₆₄ one₆₄) (two (float 4) two₆₄))
   -- epsilon 0.5 gives the same factors, rows 0,1, stop 2
   pub cross-half : (x : Float) (i : ℕ) →
       acaCall 2 2 (four two₆₄ one₆₄ (float 4) two₆₄) half₆₄ (lent x i)
-      ≡ call (Done (record { rank = 1; estimate = float 25; stop = 2; «rows_read» = 2 }))
+      ≡ call (0, some (record { rank = 1; estimate = float 25; stop = 2; «rows_read» = 2 }))
       (memory (four (float 4) two₆₄ x x) (four half₆₄ one₆₄ x x) (two 0 1) (two 1 i) (two zero₆₄ zero₆₄) (two (float 4) two₆₄))
   -- rows (1,0),(0,1), epsilon 0.5: rank 1, rows 0,0, column 0, stop 2
   pub cross-unit : (x : Float) (i : ℕ) →
       acaCall 2 2 (four one₆₄ zero₆₄ zero₆₄ one₆₄) half₆₄ (lent x i)
-      ≡ call (Done (record { rank = 1; estimate = one₆₄; stop = 2; «rows_read» = 2 }))
+      ≡ call (0, some (record { rank = 1; estimate = one₆₄; stop = 2; «rows_read» = 2 }))
       (memory (four one₆₄ zero₆₄ x x) (four one₆₄ zero₆₄ x x) (two 0 0) (two 0 i) (two zero₆₄ zero₆₄) (two one₆₄ zero₆₄))

@@ -2,17 +2,18 @@
 use borrow.Author.Needs.{needs}
 use mathlib.Core.Path.{sym, _∙_}
 use borrow.Author.Tests.{le-leb, lt-leb}
+use Rattle.common.specs.Refusals.{mostEntries}
 use Rattle.aca.specs.Runs.{acaNumber}
 use Rattle.aca.proofs.limits.aca_number.Statement.{statement}
 use Rattle.aca.proofs.limits.aca_number.Tie as tie
 
 returns : tie.Need-returns
 unfolding acaNumber
-returns c = rw (lt-leb _ 1024 (c .if1 .taken))
+returns c = rw (lt-leb _ mostEntries (c .if1 .taken))
 
 returns-2 : tie.Need-returns-2
 unfolding acaNumber
-returns-2 c = rw (le-leb _ 1024 (c .before .if1 .left), lt-leb _ 1024 (c .if2 .taken))
+returns-2 c = rw (le-leb _ mostEntries (c .before .if1 .left), lt-leb _ mostEntries (c .if2 .taken))
 
 fits-requires : tie.Need-fits-requires
 fits-requires c κs = search needs
@@ -20,12 +21,12 @@ fits-requires c κs = search needs
 returns-3 : tie.Need-returns-3
 unfolding acaNumber
 returns-3 c =
-    rw (le-leb _ 1024 (c .before .before .before .if1 .left), le-leb _ 1024 (c .before .before .if2 .left), sym (c .before .fits2 .ensures) ∙ c .if3 .taken)
+    rw (le-leb _ mostEntries (c .before .before .before .if1 .left), le-leb _ mostEntries (c .before .before .if2 .left), sym (c .before .fits2 .ensures) ∙ c .if3 .taken)
 
 returns-4 : tie.Need-returns-4
 unfolding acaNumber
 returns-4 c =
-    rw (le-leb _ 1024 (c .before .before .before .if1 .left), le-leb _ 1024 (c .before .before .if2 .left), sym (c .before .fits2 .ensures) ∙ c .if3 .left)
+    rw (le-leb _ mostEntries (c .before .before .before .if1 .left), le-leb _ mostEntries (c .before .before .if2 .left), sym (c .before .fits2 .ensures) ∙ c .if3 .left)
 
 pub aca-number-spec : {M : Type 1} → statement M
 aca-number-spec = tie.close (tie.spec returns returns-2 fits-requires returns-3 returns-4)

@@ -4,12 +4,13 @@ use Prim.Native.Nat.{_≤_}
 use native.Mathlib.Nat.{mul-le-mul, min-le-left}
 use native.Mathlib.Omega.{arith}
 use borrow.Author.Tests.{eq-eqb, ne-eqb}
+use Rattle.common.specs.Refusals.{mostEntries}
 use Rattle.aca.specs.Runs.{fits}
 use Rattle.aca.proofs.limits.fits.Statement.{statement}
 use Rattle.aca.proofs.limits.fits.Tie as tie
 
 -- there are not too many terms
-few : (t : tie.After-least) → t .least .result ≤ 1024
+few : (t : tie.After-least) → t .least .result ≤ mostEntries
 few t = rw (t .least .ensures) (omega (arith, min-le-left (t .before .args .rows) (t .before .args .columns), t .before .pre .0))
 
 least-requires : tie.Need-least-requires
@@ -18,7 +19,7 @@ least-requires c κs = search needs
 mul-if1 : tie.Need-mul-if1
 mul-if1 c =
     let s = c .before in
-    omega (arith, mul-le-mul {n₁ = s .args .columns} {m₁ = s .args .rows} {n₂ = 1024} {m₂ = 1024} (s .pre .1) (s .pre .0))
+    omega (arith, mul-le-mul {n₁ = s .args .columns} {m₁ = s .args .rows} {n₂ = mostEntries} {m₂ = mostEntries} (s .pre .1) (s .pre .0))
 
 returns : tie.Need-returns
 unfolding fits
@@ -30,7 +31,7 @@ mul-if2 : tie.Need-mul-if2
 mul-if2 c =
     let t = c .before .before in
     let s = t .before in
-    omega (arith, mul-le-mul {n₁ = t .least .result} {m₁ = s .args .rows} {n₂ = 1024} {m₂ = 1024} (few t) (s .pre .0))
+    omega (arith, mul-le-mul {n₁ = t .least .result} {m₁ = s .args .rows} {n₂ = mostEntries} {m₂ = mostEntries} (few t) (s .pre .0))
 
 returns-2 : tie.Need-returns-2
 unfolding fits
@@ -43,7 +44,7 @@ mul-if3 : tie.Need-mul-if3
 mul-if3 c =
     let t = c .before .before .before .before in
     let s = t .before in
-    omega (arith, mul-le-mul {n₁ = t .least .result} {m₁ = s .args .columns} {n₂ = 1024} {m₂ = 1024} (few t) (s .pre .1))
+    omega (arith, mul-le-mul {n₁ = t .least .result} {m₁ = s .args .columns} {n₂ = mostEntries} {m₂ = mostEntries} (few t) (s .pre .1))
 
 returns-3 : tie.Need-returns-3
 unfolding fits

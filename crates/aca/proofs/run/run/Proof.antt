@@ -1,21 +1,89 @@
 -- `aca::run::run` meets its contract. The loop keeps: what is left of the run, from where the memory stands, is the whole run. Assumes nothing.
 use borrow.Author.Needs.{needs}
-use mathlib.Core.Path.{_≡_, refl, _∙_}
-use Prim.Native.Nat.{_-_}
+use mathlib.Core.Path.{_≡_, refl}
+use mathlib.Core.List.{List}
+use Prim.Native.Nat.{ℕ, _-_, _+_, _<_, _^_}
 use native.Mathlib.Omega.{arith}
+use lib.Ieee.{Float}
 use lib.ListN.{length}
-use Rattle.steps.specs.Memories.{memory}
-use Rattle.aca.proofs.Repeated.{Going, going-none, ends, ready, stops, goes}
+use Rattle.aca_steps.specs.Memories.{Memory, memory}
+use Rattle.aca.proofs.Repeated.{Alike, alike-both, Going, going-none, ends, ready, stops, goes}
 use Rattle.aca.proofs.run.run.Statement.{statement}
 use Rattle.aca.proofs.run.run.Tie as tie
 
 abbrev Inv-loop : tie.InvT-loop
-Inv-loop samples tolerance u₀ v₀ row-flags₀ column-flags₀ row-list₀ column-list₀ row₀ column₀ most s₀ k₀ u v row-flags column-flags row-list column-list row column s k =
+Inv-loop samples tolerance u₀ v₀ row-flags₀ column-flags₀ row-list₀ column-list₀ row₀ column₀ most s₀ read₀ u v row-flags column-flags row-list column-list row column s read =
     (most ≡ length row-list₀) ×
-    Going samples tolerance (memory u₀ v₀ row-list₀ column-list₀ row₀ column₀) (memory u v row-list column-list row column) row-flags column-flags s k
+    Going samples tolerance (memory u₀ v₀ row-list₀ column-list₀ row₀ column₀) (memory u v row-list column-list row column) row-flags column-flags s read
 
 abbrev μ-loop : tie.MeasureT-loop
-μ-loop samples tolerance u₀ v₀ row-flags₀ column-flags₀ row-list₀ column-list₀ row₀ column₀ most s₀ k₀ u v row-flags column-flags row-list column-list row column s k = most - k
+μ-loop samples tolerance u₀ v₀ row-flags₀ column-flags₀ row-list₀ column-list₀ row₀ column₀ most s₀ read₀ u v row-flags column-flags row-list column-list row column s read = most - read
+
+-- THE PLACES, each from the one after it
+
+abbrev start : tie.At-loop Inv-loop μ-loop → tie.Start Inv-loop μ-loop
+start c = c .before .before .before .before .before .before .before .before
+
+abbrev stepping : tie.After-advance-arg8 Inv-loop μ-loop → tie.In-loop Inv-loop μ-loop
+stepping c = c .before .before .before .before .before .before .before .before
+
+abbrev stepped : tie.After-known-told2 Inv-loop μ-loop → tie.After-advance Inv-loop μ-loop
+stepped c = c .before .before .before .before .before .before .before .before .before .before .before .before .before .before .before
+
+abbrev stepped-on : tie.After-known-told Inv-loop μ-loop → tie.After-advance Inv-loop μ-loop
+stepped-on c = c .before .before .before .before .before .before .before .before .before .before .before .before .before .before .before
+
+-- where the loop is entered again, and where it is left
+module _ (c : tie.At-loop Inv-loop μ-loop) where
+  abbrev samples : List Float
+  samples = start c .args .samples .now
+
+  abbrev tolerance : Float
+  tolerance = start c .args .tolerance
+
+  abbrev lent : Memory
+  lent =
+      let a = start c .args in
+      memory (a .u .now) (a .v .now) (a .row-list .now) (a .column-list .now) (a .row .now) (a .column .now)
+
+  abbrev held : Memory
+  held = memory (c .loop .u) (c .loop .v) (c .loop .row-list) (c .loop .column-list) (c .loop .row) (c .loop .column)
+
+  going : Going samples tolerance lent held (c .loop .row-flags) (c .loop .column-flags) (c .loop .s) (c .loop .read)
+  going = c .loop .inv .1
+
+-- inside the loop a step is left
+module _ (c : tie.In-loop Inv-loop μ-loop) where
+  left : c .before .loop .read < length (start (c .before) .args .row-list .now)
+  left = rw (c .before .loop .inv .0) at (c .loop-test .taken)
+
+  small : c .before .loop .read + 1 < 2 ^ 64
+  small = let s = start (c .before) .pre in omega (arith, left, s .short, s .sizes .tall)
+
+-- after the step: the lengths stay
+module _ (c : tie.After-advance Inv-loop μ-loop) where
+  abbrev from : tie.In-loop Inv-loop μ-loop
+  from = stepping (c .before)
+
+  abbrev after : Memory
+  after =
+      memory (c .advance .last .1 .1 .1 .1 .0) (c .advance .last .1 .1 .1 .1 .1 .0) (c .advance .last .1 .1 .1 .1 .1 .1 .1 .1 .0) (c .advance .last .1 .1 .1 .1 .1 .1 .1 .1 .1 .0)
+      (c .advance .last .1 .1 .1 .1 .1 .1 .1 .1 .1 .1 .0) (c .advance .last .1 .1 .1 .1 .1 .1 .1 .1 .1 .1 .1 .0)
+
+  same : Alike (held (from .before)) after
+  same =
+      let k = c .advance .kept .1 .1 .1 .1 in
+      record {
+        us-same = k .0;
+        vs-same = k .1 .0;
+        rows-same = k .1 .1 .1 .1 .0;
+        columns-same = k .1 .1 .1 .1 .1 .0;
+        row-same = k .1 .1 .1 .1 .1 .1 .0;
+        column-same = k .1 .1 .1 .1 .1 .1 .1 .0;
+      }
+
+  all-same : Alike (lent (from .before)) after
+  all-same = alike-both _ _ _ (going (from .before) .alike) same
 
 loop-holds : tie.Need-loop-holds Inv-loop μ-loop
 loop-holds c =
@@ -24,12 +92,9 @@ loop-holds c =
 
 advance-requires : tie.Need-advance-requires Inv-loop μ-loop
 advance-requires c κs =
-    let s = c .before .before .before .before .before .before .before .before .before .before .before .before .before .before .before .before .before in
-    let t = c .before .before .before .before .before .before .before .before .before in
-    let o = c .before .before .before .before .before .before .before .before in
-    let g = t .loop .inv in
-    let p = s .pre in
-    (ready (s .args .samples .now) (s .args .tolerance) _ _ _ (s .pre) _ _ _ _ _ (t .loop .inv .1) (rw (t .loop .inv .0) at (o .loop-test .taken)), omega (arith, g .0, g .1 .term, o .loop-test .taken, p .short, p .sizes .tall))
+    let i = stepping c in
+    let l = i .before in
+    ready (samples l) (tolerance l) (lent l) _ _ (start l .pre) (held l) _ _ _ _ (going l) (left i)
 
 enum-known-made : tie.Need-enum-known-made Inv-loop μ-loop
 enum-known-made c = search needs
@@ -38,86 +103,76 @@ enum-known-made-2 : tie.Need-enum-known-made-2 Inv-loop μ-loop
 enum-known-made-2 c = search needs
 
 add-report : tie.Need-add-report Inv-loop μ-loop
-add-report c =
-    let s = c .before .before .before .before .before .before .before .before .before .before .before .before .before .before .before .before .before .before .before .before .before .before .before .before .before .before .before .before .before .before .before .before .before in
-    omega (arith, c .before .before .before .before .before .before .before .before .before .before .before .before .before .before .before .before .before .before .before .before .before .before .before .before .before .loop .inv .0, c .before .before .before .before .before .before .before .before .before .before .before .before .before .before .before .before .before .before .before .before .before .before .before .before .loop-test .taken, s .pre .short, s .pre .sizes .tall)
+add-report c = record { fits = small (from (stepped c)) }
 
 report-requires : tie.Need-report-requires Inv-loop μ-loop
 report-requires c κs = search needs
 
 same-length : tie.Need-same-length Inv-loop μ-loop
-same-length c =
-    c .before .before .before .before .before .before .before .before .before .before .before .before .before .before .before .before .advance .kept .1 .1 .1 .0 ∙ c .before .before .before .before .before .before .before .before .before .before .before .before .before .before .before .before .before .before .before .before .before .before .before .before .before .before .loop .inv .1 .alike .us-same
+same-length c = all-same (stepped (c .before)) .us-same
 
 same-length-2 : tie.Need-same-length-2 Inv-loop μ-loop
-same-length-2 c =
-    c .before .before .before .before .before .before .before .before .before .before .before .before .before .before .before .before .advance .kept .1 .1 .1 .1 .0 ∙ c .before .before .before .before .before .before .before .before .before .before .before .before .before .before .before .before .before .before .before .before .before .before .before .before .before .before .loop .inv .1 .alike .vs-same
+same-length-2 c = all-same (stepped (c .before)) .vs-same
 
 same-length-3 : tie.Need-same-length-3 Inv-loop μ-loop
-same-length-3 c =
-    c .before .before .before .before .before .before .before .before .before .before .before .before .before .before .before .before .advance .kept .1 .1 .1 .1 .1 .1 .1 .0 ∙ c .before .before .before .before .before .before .before .before .before .before .before .before .before .before .before .before .before .before .before .before .before .before .before .before .before .before .loop .inv .1 .alike .rows-same
+same-length-3 c = all-same (stepped (c .before)) .rows-same
 
 same-length-4 : tie.Need-same-length-4 Inv-loop μ-loop
-same-length-4 c =
-    c .before .before .before .before .before .before .before .before .before .before .before .before .before .before .before .before .advance .kept .1 .1 .1 .1 .1 .1 .1 .1 .0 ∙ c .before .before .before .before .before .before .before .before .before .before .before .before .before .before .before .before .before .before .before .before .before .before .before .before .before .before .loop .inv .1 .alike .columns-same
+same-length-4 c = all-same (stepped (c .before)) .columns-same
 
 same-length-5 : tie.Need-same-length-5 Inv-loop μ-loop
-same-length-5 c =
-    c .before .before .before .before .before .before .before .before .before .before .before .before .before .before .before .before .advance .kept .1 .1 .1 .1 .1 .1 .1 .1 .1 .0 ∙ c .before .before .before .before .before .before .before .before .before .before .before .before .before .before .before .before .before .before .before .before .before .before .before .before .before .before .loop .inv .1 .alike .row-same
+same-length-5 c = all-same (stepped (c .before)) .row-same
 
 same-length-6 : tie.Need-same-length-6 Inv-loop μ-loop
-same-length-6 c =
-    c .before .before .before .before .before .before .before .before .before .before .before .before .before .before .before .before .advance .kept .1 .1 .1 .1 .1 .1 .1 .1 .1 .1 .0 ∙ c .before .before .before .before .before .before .before .before .before .before .before .before .before .before .before .before .before .before .before .before .before .before .before .before .before .before .loop .inv .1 .alike .column-same
+same-length-6 c = all-same (stepped (c .before)) .column-same
 
 returns : tie.Need-returns Inv-loop μ-loop
 returns c =
-    let s = c .before .before .before .before .before .before .before .before .before .before .before .before .before .before .before .before .before .before .before .before .before .before .before .before .before .before .before .before .before .before .before .before .before .before in
-    let t = c .before .before .before .before .before .before .before .before .before .before .before .before .before .before .before .before .before .before .before .before .before .before .before .before .before .before in
-    rw (c .report .ensures) (stops (s .args .samples .now) (s .args .tolerance) _ _ _ (s .pre) _ _ _ _ _ (t .loop .inv .1) (rw (t .loop .inv .0) at (c .before .before .before .before .before .before .before .before .before .before .before .before .before .before .before .before .before .before .before .before .before .before .before .before .before .loop-test .taken)) _ _ _ _ (c .before .before .before .before .before .before .before .before .before .before .before .before .before .before .before .before .advance .ensures) _ _ (c .before .before .made2 .given .1))
+    let a = stepped (c .before) in
+    let i = from a in
+    let l = i .before in
+    rw (c .report .ensures)
+    (stops (samples l) (tolerance l) (lent l) _ _ (start l .pre) (held l) _ _ _ _ (going l) (left i) _ (after a) _ _ (a .advance .ensures) _ _ (c .before .before .made2 .given .1))
 
-add-k : tie.Need-add-k Inv-loop μ-loop
-add-k c =
-    let s = c .before .before .before .before .before .before .before .before .before .before .before .before .before .before .before .before .before .before .before .before .before .before .before .before .before .before .before .before .before .before .before .before .before in
-    omega (arith, c .before .before .before .before .before .before .before .before .before .before .before .before .before .before .before .before .before .before .before .before .before .before .before .before .before .loop .inv .0, c .before .before .before .before .before .before .before .before .before .before .before .before .before .before .before .before .before .before .before .before .before .before .before .before .loop-test .taken, s .pre .short, s .pre .sizes .tall)
+add-read : tie.Need-add-read Inv-loop μ-loop
+add-read c = record { fits = small (from (stepped-on c)) }
 
 loop-less : tie.Need-loop-less Inv-loop μ-loop
-loop-less c =
-    omega (arith, c .before .before .before .before .before .before .before .before .before .before .before .before .before .before .before .before .before .before .before .before .before .before .before .before .loop-test .taken)
+loop-less c = omega (arith, from (stepped-on c) .loop-test .taken)
 
 loop-again : tie.Need-loop-again Inv-loop μ-loop
 loop-again c =
-    let s = c .before .before .before .before .before .before .before .before .before .before .before .before .before .before .before .before .before .before .before .before .before .before .before .before .before .before .before .before .before .before .before .before .before in
-    let t = c .before .before .before .before .before .before .before .before .before .before .before .before .before .before .before .before .before .before .before .before .before .before .before .before .before in
-    let o = c .before .before .before .before .before .before .before .before .before .before .before .before .before .before .before in
-    let q = o .advance .kept .1 .1 .1 in
-    (t .loop .inv .0, goes (s .args .samples .now) (s .args .tolerance) _ _ _ (s .pre) _ _ _ _ _ (t .loop .inv .1) (rw (t .loop .inv .0) at (c .before .before .before .before .before .before .before .before .before .before .before .before .before .before .before .before .before .before .before .before .before .before .before .before .loop-test .taken)) _ _ _ _ (o .advance .ensures) _ (c .before .made .given .1) (record { us-same = q .0; vs-same = q .1 .0; rows-same = q .1 .1 .1 .1 .0; columns-same = q .1 .1 .1 .1 .1 .0; row-same = q .1 .1 .1 .1 .1 .1 .0; column-same = q .1 .1 .1 .1 .1 .1 .1 .0 }))
+    let a = stepped-on c in
+    let i = from a in
+    let l = i .before in
+    (l .loop .inv .0, goes (samples l) (tolerance l) (lent l) _ _ (start l .pre) (held l) _ _ _ _ (going l) (left i) _ (after a) _ _ (a .advance .ensures) _ (c .before .made .given .1) (same a))
 
 report-requires-2 : tie.Need-report-requires-2 Inv-loop μ-loop
 report-requires-2 c κs = search needs
 
 same-length-7 : tie.Need-same-length-7 Inv-loop μ-loop
-same-length-7 c = c .before .before .loop .inv .1 .alike .us-same
+same-length-7 c = going (c .before .before) .alike .us-same
 
 same-length-8 : tie.Need-same-length-8 Inv-loop μ-loop
-same-length-8 c = c .before .before .loop .inv .1 .alike .vs-same
+same-length-8 c = going (c .before .before) .alike .vs-same
 
 same-length-9 : tie.Need-same-length-9 Inv-loop μ-loop
-same-length-9 c = c .before .before .loop .inv .1 .alike .rows-same
+same-length-9 c = going (c .before .before) .alike .rows-same
 
 same-length-10 : tie.Need-same-length-10 Inv-loop μ-loop
-same-length-10 c = c .before .before .loop .inv .1 .alike .columns-same
+same-length-10 c = going (c .before .before) .alike .columns-same
 
 same-length-11 : tie.Need-same-length-11 Inv-loop μ-loop
-same-length-11 c = c .before .before .loop .inv .1 .alike .row-same
+same-length-11 c = going (c .before .before) .alike .row-same
 
 same-length-12 : tie.Need-same-length-12 Inv-loop μ-loop
-same-length-12 c = c .before .before .loop .inv .1 .alike .column-same
+same-length-12 c = going (c .before .before) .alike .column-same
 
 returns-2 : tie.Need-returns-2 Inv-loop μ-loop
 returns-2 c =
-    let s = c .before .before .before .before .before .before .before .before .before .before in
-    let g = c .before .before .loop .inv in
-    rw (c .report2 .ensures, g .0) (ends (s .args .samples .now) (s .args .tolerance) _ _ _ (s .pre) _ _ _ _ _ (c .before .before .loop .inv .1) (rw (g .0) at (c .before .loop-test .left)))
+    let l = c .before .before in
+    let over = rw (l .loop .inv .0) at (c .before .loop-test .left) in
+    rw (c .report2 .ensures) (ends (samples l) (tolerance l) (lent l) _ _ (start l .pre) (held l) _ _ _ _ (going l) over)
 
 pub run-spec : {M : Type 1} → statement M
 run-spec =
@@ -138,7 +193,7 @@ run-spec =
     same-length-5
     same-length-6
     returns
-    add-k
+    add-read
     loop-less
     loop-again
     report-requires-2

@@ -58,7 +58,7 @@ returns-3 c =
     let made = told .before .before .before .before .before .before .before .before .before .before .before .before .before .before .before in
     let passed = made .before .before .before .before .before .before .before in
     let a = passed .before .before .before .before .before .before .before .before .before .before .before .args in
-    cross-fit (a .rows) (a .columns) (a .samples .now) (a .epsilon) _ _ _ _ _ _ _ _
+    cross-fit (a .rows) (a .columns) (a .samples .now) (a .epsilon) _ _ _ (made .aca-partial-pivoting .result) _ _ _ _
     (fit-both (a .counts .now) (a .estimate .now) (passed .before .if1 .left) (passed .if2 .left))
     (made .aca-partial-pivoting .ensures) (told .tell-report .ensures)
 

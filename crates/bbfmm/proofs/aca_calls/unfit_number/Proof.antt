@@ -1,20 +1,21 @@
 -- `bbfmm::aca_calls::unfit_number` meets its contract: each return by its tests. Assumes nothing.
 use borrow.Author.Tests.{le-leb, lt-leb}
+use Rattle.common.specs.Refusals.{mostEntries}
 use Rattle.bbfmm.specs.Working.{unfitNumber}
 use Rattle.bbfmm.proofs.aca_calls.unfit_number.Statement.{statement}
 use Rattle.bbfmm.proofs.aca_calls.unfit_number.Tie as tie
 
 returns : tie.Need-returns
 unfolding unfitNumber
-returns c = rw (lt-leb _ 1024 (c .if1 .taken))
+returns c = rw (lt-leb _ mostEntries (c .if1 .taken))
 
 returns-2 : tie.Need-returns-2
 unfolding unfitNumber
-returns-2 c = rw (le-leb _ 1024 (c .before .if1 .left), lt-leb _ 1024 (c .if2 .taken))
+returns-2 c = rw (le-leb _ mostEntries (c .before .if1 .left), lt-leb _ mostEntries (c .if2 .taken))
 
 returns-3 : tie.Need-returns-3
 unfolding unfitNumber
-returns-3 c = rw (le-leb _ 1024 (c .before .if1 .left), le-leb _ 1024 (c .if2 .left))
+returns-3 c = rw (le-leb _ mostEntries (c .before .if1 .left), le-leb _ mostEntries (c .if2 .left))
 
 pub unfit-number-spec : {M : Type 1} → statement M
 unfit-number-spec = tie.close (tie.spec returns returns-2 returns-3)

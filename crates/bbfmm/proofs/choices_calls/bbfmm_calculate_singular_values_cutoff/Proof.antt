@@ -1,11 +1,12 @@
 -- `bbfmm::choices_calls::bbfmm_calculate_singular_values_cutoff` meets its contract: what is told is the place that the call answers. Assumes nothing.
 use borrow.Author.Needs.{needs}
 use mathlib.Core.Path.{ap, _∙_}
-use Rattle.choices.specs.declared.Place.{Place}
+use mathlib.Core.Option.{Option}
+use Prim.Native.Nat.{ℕ}
 use Rattle.choices.specs.Cutoff.{cutoffCall}
 use Rattle.bbfmm.specs.Told.{cutoffTold}
 use Rattle.bbfmm.specs.Working.{placeTold}
-use Rattle.bbfmm.proofs.Numbers.{place-told}
+use Rattle.bbfmm.proofs.Places.{place-told}
 use Rattle.bbfmm.proofs.choices_calls.bbfmm_calculate_singular_values_cutoff.Statement.{statement}
 use Rattle.bbfmm.proofs.choices_calls.bbfmm_calculate_singular_values_cutoff.Tie as tie
 
@@ -23,7 +24,7 @@ unfolding cutoffTold cutoffCall
 returns c =
     let lent = c .before .before .before .before .before .before .before .args .place .now in
     c .before .before .tell-place .ensures
-    ∙ ap (λ (p : Place). placeTold p lent) (c .before .before .before .before .calculate-singular-values-cutoff .ensures)
+    ∙ ap (λ (x : ℕ × Option ℕ). placeTold x lent) (c .before .before .before .before .calculate-singular-values-cutoff .ensures)
     ∙ place-told _ _ lent
 
 pub bbfmm-calculate-singular-values-cutoff-spec : {M : Type 1} → statement M

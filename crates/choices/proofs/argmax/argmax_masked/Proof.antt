@@ -2,18 +2,22 @@
 use borrow.Author.Needs.{needs}
 use mathlib.Core.Path.{sym, ap, _∙_}
 use borrow.Author.Tests.{le-leb, lt-leb, eq-eqb, ne-eqb}
+use Rattle.common.specs.Refusals.{mostEntries}
 use Rattle.choices.specs.declared.Place.the-variants.{At}
+use Rattle.aca_lines.specs.Largest.{pivot}
+use Rattle.aca_lines.specs.declared.Pivot.{Pivot}
 use Rattle.choices.specs.Argmax.{argmaxNumber, argmaxCall}
+use Rattle.choices.specs.Places.{told}
 use Rattle.choices.proofs.argmax.argmax_masked.Statement.{statement}
 use Rattle.choices.proofs.argmax.argmax_masked.Tie as tie
 
 returns : tie.Need-returns
 unfolding argmaxCall argmaxNumber
-returns c = rw (lt-leb _ 1024 (c .if1 .taken))
+returns c = rw (lt-leb _ mostEntries (c .if1 .taken))
 
 returns-2 : tie.Need-returns-2
 unfolding argmaxCall argmaxNumber
-returns-2 c = rw (le-leb _ 1024 (c .before .if1 .left), ne-eqb _ _ (c .if2 .taken))
+returns-2 c = rw (le-leb _ mostEntries (c .before .if1 .left), ne-eqb _ _ (c .if2 .taken))
 
 is-mask-requires : tie.Need-is-mask-requires
 is-mask-requires c κs = search needs
@@ -22,12 +26,12 @@ pick-requires : tie.Need-pick-requires
 pick-requires c κs = search needs
 
 returns-3 : tie.Need-returns-3
-unfolding argmaxCall argmaxNumber
-returns-3 c = rw (le-leb _ 1024 (c .before .before .before .before .if1 .left), eq-eqb _ _ (c .before .before .before .if2 .left), sym (c .before .before .is-mask .ensures) ∙ c .before .if3 .taken) (ap At (c .pick .ensures))
+unfolding argmaxCall argmaxNumber pivot
+returns-3 c = rw (le-leb _ mostEntries (c .before .before .before .before .if1 .left), eq-eqb _ _ (c .before .before .before .if2 .left), sym (c .before .before .is-mask .ensures) ∙ c .before .if3 .taken) (ap (λ (p : Pivot). told (At (p .place))) (c .pick .ensures))
 
 returns-4 : tie.Need-returns-4
 unfolding argmaxCall argmaxNumber
-returns-4 c = rw (le-leb _ 1024 (c .before .before .before .if1 .left), eq-eqb _ _ (c .before .before .if2 .left), sym (c .before .is-mask .ensures) ∙ c .if3 .left)
+returns-4 c = rw (le-leb _ mostEntries (c .before .before .before .if1 .left), eq-eqb _ _ (c .before .before .if2 .left), sym (c .before .is-mask .ensures) ∙ c .if3 .left)
 
 pub argmax-masked-spec : {M : Type 1} → statement M
 argmax-masked-spec =

@@ -1,69 +1,76 @@
--- `choices::cutoff::first_below` meets its contract. The loop keeps: the squares from place i on are summed, and `at` is the first place found from there on. Assumes nothing.
+-- `choices::cutoff::first_below` meets its contract. The loop keeps: the squares from place `at` on are summed, and `at` is the first place
+-- found from there on. Assumes nothing.
 use borrow.Author.Needs.{needs}
-use mathlib.Core.Path.{_≡_}
-use Prim.Native.Nat.{_+_, _≤_}
+use mathlib.Core.Path.{_≡_, sym, _∙_}
+use mathlib.Core.Bool.{true, false}
+use mathlib.Core.List.{List}
+use Prim.Native.Nat.{ℕ, _-_, _<_, _≤_}
 use native.Mathlib.Omega.{arith}
-use lib.ListN.{length, drop}
+use lib.Ieee.{Float, nan}
+use lib.ListN.{length, getD, drop}
+use Rattle.common.specs.Floats.{plus, times}
+use Rattle.common.proofs.Cases.{of-not}
 use Rattle.choices.specs.Cutoff.{squares, firstBelow}
-use Rattle.choices.proofs.Tails.{squares-none, squares-more, first-none, first-here, first-later}
+use Rattle.choices.proofs.Tails.{squares-none, squares-more, first-none, first-here, first-after}
 use Rattle.choices.proofs.cutoff.first_below.Statement.{statement}
 use Rattle.choices.proofs.cutoff.first_below.Tie as tie
 
 abbrev Inv-loop : tie.InvT-loop
-Inv-loop bound values sum₀ i₀ at₀ sum i at = (i ≤ length values) × (sum ≡ squares (drop i values)) × (at ≡ i + firstBelow bound (drop i values))
+Inv-loop bound values sum₀ at₀ sum at =
+    (at ≤ length values) × (sum ≡ squares (drop at values)) × (firstBelow bound (drop at values) ≡ 0)
 
 abbrev μ-loop : tie.MeasureT-loop
-μ-loop bound values sum₀ i₀ at₀ sum i at = i
+μ-loop bound values sum₀ at₀ sum at = at
+
+-- inside the loop: one square more
+module _ (c : tie.In-loop Inv-loop μ-loop) where
+  abbrev values : List Float
+  values = c .before .before .args .values .now
+
+  abbrev bound : Float
+  bound = c .before .before .args .bound
+
+  abbrev at : ℕ
+  at = c .before .loop .at
+
+  more : plus (c .before .loop .sum) (times (getD values (at - 1) nan) (getD values (at - 1) nan)) ≡ squares (drop (at - 1) values)
+  more = squares-more values at (c .loop-test .taken) (c .before .loop .inv .0) (c .before .loop .inv .1)
 
 loop-holds : tie.Need-loop-holds Inv-loop μ-loop
 loop-holds c = let a = c .args in (omega arith, squares-none (a .values .now), first-none (a .bound) (a .values .now))
 
-sub-i : tie.Need-sub-i Inv-loop μ-loop
-sub-i c = search needs
+sub-x : tie.Need-sub-x Inv-loop μ-loop
+sub-x c = search needs
 
-mul-sum : tie.Need-mul-sum Inv-loop μ-loop
-mul-sum c = search needs
+mul-x : tie.Need-mul-x Inv-loop μ-loop
+mul-x c = search needs
 
-shared-slice-read-sum : tie.Need-shared-slice-read-sum Inv-loop μ-loop
-shared-slice-read-sum c = search needs
+shared-slice-read-x : tie.Need-shared-slice-read-x Inv-loop μ-loop
+shared-slice-read-x c = search needs
 
-mul-sum-2 : tie.Need-mul-sum-2 Inv-loop μ-loop
-mul-sum-2 c = search needs
+returns : tie.Need-returns Inv-loop μ-loop
+returns c =
+    let i = c .before .before in
+    let l = i .before .loop in
+    first-after (values i) (at i) (i .loop-test .taken) (l .inv .0) (bound i) (more i) (of-not _ true (c .if1 .taken)) (l .inv .2)
 
-shared-slice-read-sum-2 : tie.Need-shared-slice-read-sum-2 Inv-loop μ-loop
-shared-slice-read-sum-2 c = search needs
+sub-at : tie.Need-sub-at Inv-loop μ-loop
+sub-at c = search needs
 
 loop-less : tie.Need-loop-less Inv-loop μ-loop
 loop-less c = search needs
 
 loop-again : tie.Need-loop-again Inv-loop μ-loop
 loop-again c =
-    let s = c .before .before .before .before .before in
-    let t = c .before .before .before .before in
-    let o = c .before .before .before in
-    let a = s .args in
-    let l = t .loop in
-    let sum = squares-more (s .args .values .now) (t .loop .i) (o .loop-test .taken) (t .loop .inv .0) (t .loop .inv .1) in
-    (omega (arith, l .inv .0), sum, first-here (a .bound) (a .values .now) (l .i) (o .loop-test .taken) (l .inv .0) sum (c .if1 .taken))
+    let i = c .before .before in
+    let l = i .before .loop in
+    (omega (arith, l .inv .0), more i, first-here (values i) (at i) (i .loop-test .taken) (l .inv .0) (bound i) (more i) (of-not _ false (c .if1 .left)))
 
-loop-less-2 : tie.Need-loop-less-2 Inv-loop μ-loop
-loop-less-2 c = search needs
-
-loop-again-2 : tie.Need-loop-again-2 Inv-loop μ-loop
-loop-again-2 c =
-    let s = c .before .before .before .before .before in
-    let t = c .before .before .before .before in
-    let o = c .before .before .before in
-    let a = s .args in
-    let l = t .loop in
-    let sum = squares-more (s .args .values .now) (t .loop .i) (o .loop-test .taken) (t .loop .inv .0) (t .loop .inv .1) in
-    (omega (arith, l .inv .0), sum, first-later (a .bound) (a .values .now) (l .i) (o .loop-test .taken) (l .inv .0) sum (c .if1 .left) (l .inv .2))
-
-returns : tie.Need-returns Inv-loop μ-loop
-returns c =
-    let none : c .before .loop .i ≡ 0 = omega arith in
+returns-2 : tie.Need-returns-2 Inv-loop μ-loop
+returns-2 c =
+    let none : c .before .loop .at ≡ 0 = omega arith in
     let found = rw none at (c .before .loop .inv .2) in
-    omega (arith, found)
+    none ∙ sym found
 
 pub first-below-spec : {M : Type 1} → statement M
 first-below-spec =
@@ -72,13 +79,11 @@ first-below-spec =
     Inv-loop
     μ-loop
     loop-holds
-    sub-i
-    mul-sum
-    shared-slice-read-sum
-    mul-sum-2
-    shared-slice-read-sum-2
+    sub-x
+    mul-x
+    shared-slice-read-x
+    returns
+    sub-at
     loop-less
     loop-again
-    loop-less-2
-    loop-again-2
-    returns)
+    returns-2)

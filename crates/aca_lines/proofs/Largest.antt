@@ -1,0 +1,94 @@
+-- The masked argmax: one entry more is larger and counts, is larger and does not, or is not larger; where it is; and what it
+-- depends on. Assumes nothing.
+use mathlib.Core.Path.{_≡_, refl, ap, _∙_}
+use mathlib.Core.Bool.{Bool, true, false, _&&_}
+use mathlib.Core.List.{List, [], _∷_}
+use Prim.Native.Nat.{ℕ, zero, suc, _+_, _<_, _≤_}
+use native.Mathlib.Numerals.{add-one}
+use native.Mathlib.Omega.{arith}
+use lib.Ieee.{Float, nan, lt, ofBits, ofFields, odd}
+use lib.ListN.{length, getD, List·getD-eq-default}
+use Rattle.common.specs.Floats.{zero₆₄, size}
+use Rattle.common.proofs.Cases.{by-bool}
+use Rattle.aca_lines.specs.Largest.{Best, best, argmax, pivot}
+use Rattle.aca_lines.specs.declared.Pivot.{Pivot}
+
+-- what a loop holds after k entries
+pub record Largest (l : List Float) (on : ℕ → Bool) (k place : ℕ) (worth : Float) : Type 0 where
+  pub place-is : place ≡ best k l on .place
+  pub worth-is : worth ≡ best k l on .worth
+
+-- the same, under other names
+pub again : {l : List Float} {on : ℕ → Bool} {k y z : ℕ} {x v : Float} → Largest l on k z v → y ≡ z → x ≡ v → Largest l on k y x
+again b e f = record { place-is = e ∙ b .place-is; worth-is = f ∙ b .worth-is }
+
+module _ (l : List Float) (on : ℕ → Bool) (k : ℕ) {y : ℕ} {x s : Float} (b : Largest l on k y x) (f : s ≡ size (getD l k nan)) where
+  pub taken : on k ≡ true → lt x s ≡ true → Largest l on (k + 1) k s
+  unfolding best
+  taken o t =
+      let h : lt (best k l on .worth) (size (getD l k nan)) ≡ true = rw (b .worth-is, f) at t in
+      record { place-is = rw (add-one, o, h); worth-is = rw (add-one, o, h) f }
+
+  pub masked : on k ≡ false → Largest l on (k + 1) y x
+  unfolding best
+  masked o = record { place-is = rw (add-one, o) (b .place-is); worth-is = rw (add-one, o) (b .worth-is) }
+
+  pub passed : lt x s ≡ false → Largest l on (k + 1) y x
+  unfolding best
+  passed t =
+      let h : lt (best k l on .worth) (size (getD l k nan)) ≡ false = rw (b .worth-is, f) at t in
+      by-bool (on k) (λ o. record { place-is = rw (add-one, o, h) (b .place-is); worth-is = rw (add-one, o, h) (b .worth-is) }) masked
+
+-- THE ANSWER, once all entries are passed
+
+-- an entry is the same whatever is read past the end
+pub any-default : (l : List Float) (k : ℕ) (d d' : Float) → k < length l → getD l k d ≡ getD l k d'
+any-default [] k d d' h = absurd (omega arith)
+any-default (x ∷ l) zero d d' h = refl
+any-default (x ∷ l) (suc k) d d' h = any-default l k d d' (omega arith)
+
+nothing-there : size zero₆₄ ≡ zero₆₄
+unfolding size lt ofBits ofFields odd
+nothing-there = refl
+
+module _ (l : List Float) (on : ℕ → Bool) (n place : ℕ) {worth : Float} (all : n ≡ length l) (b : Largest l on n place worth) where
+  place-found : place ≡ argmax l on
+  unfolding argmax
+  place-found = rw all at (b .place-is)
+
+  pub pivot-found : {s : Float} → place < length l → s ≡ size (getD l place nan) → _≡_ {A = Pivot} (record { place = place; size = s }) (pivot l on)
+  unfolding pivot
+  pivot-found h e = rw (← place-found, e, any-default l place nan zero₆₄ h)
+
+  pub pivot-missing : length l ≤ place → _≡_ {A = Pivot} (record { place = place; size = zero₆₄ }) (pivot l on)
+  unfolding pivot
+  pivot-missing h = rw (← place-found, List·getD-eq-default l zero₆₄ h, nothing-there)
+
+-- WHERE IT IS: a place in the list, where that has any
+
+best-in : (n : ℕ) (l : List Float) (on : ℕ → Bool) → 0 < n → best n l on .place < n
+unfolding best
+best-in (suc zero) l on h = by-bool (on 0 && lt (best 0 l on .worth) (size (getD l 0 nan))) (λ e. rw e (omega arith)) (λ e. rw e (omega arith))
+best-in (suc (suc n)) l on h =
+    by-bool (on (suc n) && lt (best (suc n) l on .worth) (size (getD l (suc n) nan)))
+    (λ e. rw e (omega arith))
+    (λ e. rw e (let less = best-in (suc n) l on (omega arith) in omega arith))
+
+pub argmax-in : (l : List Float) (on : ℕ → Bool) → 0 < length l → argmax l on < length l
+unfolding argmax
+argmax-in l on h = best-in (length l) l on h
+
+-- WHAT IT DEPENDS ON: which of the entries count
+
+best-cong : (n : ℕ) (l : List Float) (on on' : ℕ → Bool) → ((k : ℕ) → k < n → on k ≡ on' k) → best n l on ≡ best n l on'
+unfolding best
+best-cong zero l on on' h = refl
+best-cong (suc n) l on on' h = rw (best-cong n l on on' (λ k b. h k (omega arith)), h n (omega arith))
+
+argmax-cong : (l : List Float) (on on' : ℕ → Bool) → ((k : ℕ) → k < length l → on k ≡ on' k) → argmax l on ≡ argmax l on'
+unfolding argmax
+argmax-cong l on on' h = ap (λ (b : Best). b .place) (best-cong (length l) l on on' h)
+
+pub pivot-cong : (l : List Float) (on on' : ℕ → Bool) → ((k : ℕ) → k < length l → on k ≡ on' k) → pivot l on ≡ pivot l on'
+unfolding pivot
+pivot-cong l on on' h = rw (argmax-cong l on on' h)

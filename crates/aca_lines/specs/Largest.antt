@@ -1,0 +1,31 @@
+-- The largest entry of a line: only sizes strictly above the best so far count, starting from 0, so that the first of equals wins.
+use Prim.Native.Nat.{ℕ, zero, suc}
+use mathlib.Core.Bool.{Bool, _&&_, cond}
+use mathlib.Core.List.{List}
+use lib.Dec.{eqb}
+use lib.Ieee.{Float, nan, lt}
+use lib.ListN.{length, getD}
+use Rattle.common.specs.Floats.{zero₆₄, size}
+use Rattle.aca_lines.specs.declared.Pivot.{Pivot}
+
+-- the best place among the first n entries, of those at which `on` holds, and its size
+pub record Best : Type 0 where
+  pub place : ℕ
+  pub worth : Float
+
+unfoldable pub best : (n : ℕ) → (entries : List Float) → (on : ℕ → Bool) → Best
+best zero l on = record { place = 0; worth = zero₆₄ }
+best (suc n) l on =
+    cond (on n && lt (best n l on .worth) (size (getD l n nan))) (record { place = n; worth = size (getD l n nan) }) (best n l on)
+
+unfoldable pub argmax : (entries : List Float) → (on : ℕ → Bool) → ℕ
+argmax l on = best (length l) l on .place
+
+-- THE PIVOT: the place of the largest entry, and the size of the entry there. Where no entry counts that is entry 0, which may be
+-- a NaN or one that is off; in a line without entries it is +0.0.
+unfoldable pub pivot : (entries : List Float) → (on : ℕ → Bool) → Pivot
+pivot l on = record { place = argmax l on; size = size (getD l (argmax l on) zero₆₄) }
+
+-- entry k counts where byte k of a mask is 1
+unfoldable pub counts : (mask : List ℕ) → (k : ℕ) → Bool
+counts mask k = eqb (getD mask k 0) 1

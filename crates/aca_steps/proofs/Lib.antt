@@ -1,0 +1,6 @@
+pub mod Fronts
+pub mod Terms
+pub mod Marked
+pub mod Ways
+pub mod OneStep
+pub mod Determined

@@ -1,0 +1,194 @@
+-- A step in memory is a step of the rule: where the row has no pivot, and where it has one. Assumes nothing.
+use mathlib.Core.Path.{_≡_, refl, sym, ap, _∙_}
+use mathlib.Core.Bool.{true, false}
+use mathlib.Core.List.{List, [], _∷_, _++_}
+use Prim.Native.Nat.{ℕ, _+_, _*_, _<_, _≤_}
+use native.Mathlib.Omega.{arith}
+use lib.Ieee.{Float, nan, lt}
+use lib.ListN.{length, getD, set, take}
+use Rattle.common.specs.Floats.{over, one₆₄}
+use Rattle.common.proofs.Fill.{length-tabulate}
+use Rattle.common.proofs.Matrices.{column-fits}
+use Rattle.aca_lines.specs.Flags.{isOn, cleared}
+use Rattle.aca_lines.specs.Largest.{argmax, pivot}
+use Rattle.aca_lines.specs.Lines.{residual, rowLess, columnLess, multiplied, norm, cross}
+use Rattle.aca_lines.specs.declared.Pivot.{Pivot}
+use Rattle.aca_lines.proofs.Largest.{argmax-in}
+use Rattle.common.specs.Matrices.{matrix}
+use Rattle.aca_steps.specs.Crosses.{Block, Found, found, unread, rowRead, columnRead, grown, weighed, spent, tiny₆₄, judged, Outcome, outcome, stored, accepted, tried, step}
+use Rattle.aca_steps.specs.Memories.{Memory, memory, laid, blockOf}
+use Rattle.aca_steps.specs.Standing.{standing, Ready, made, Stepped}
+use Rattle.aca_steps.specs.Working.{RowFits, Lent, TermFits, TermStored}
+use Rattle.aca_steps.specs.declared.Progress.{Progress}
+use Rattle.aca_steps.specs.declared.Step.{Step}
+use Rattle.aca_steps.specs.declared.Step.the-variants.{Stop}
+use Rattle.aca_steps.proofs.Fronts.{upon-same, upon-stretch, upon-set}
+use Rattle.aca_steps.proofs.Marked.{marks-more, pivot-unread, argmax-unread}
+use Rattle.aca_steps.proofs.Terms.{residual-front, cross-front}
+
+module _ (samples : List Float) (tolerance : Float) (s : Progress) (read : ℕ) (t : Memory) (rows columns : List ℕ)
+    (ready : Ready (length samples) t s read rows columns) where
+  abbrev k : ℕ
+  k = s .rank
+
+  abbrev m : ℕ
+  m = length (t .column)
+
+  abbrev n : ℕ
+  n = length (t .row)
+
+  abbrev block : Block
+  block = blockOf m n samples
+
+  -- there is room for one more term
+  u-room : k * m + m ≤ length (t .us)
+  u-room = omega (arith, column-fits k (length (t .«column-list»)) m _ (ready .term) refl, ready .sizes .u-room)
+
+  v-room : k * n + n ≤ length (t .vs)
+  v-room = omega (arith, column-fits k (length (t .«column-list»)) n _ (ready .term) refl, ready .sizes .v-room)
+
+  pub row-fits : RowFits (length samples) m (s .next) k read (t .us) (t .vs) (t .row) (t .«row-list»)
+  row-fits =
+      record {
+        inside = ready .row-in;
+        tall = ready .sizes .tall;
+        wide = ready .sizes .wide;
+        place = ready .reading;
+        block = ready .sizes .block;
+        u-long = omega (arith, u-room);
+        v-long = omega (arith, v-room);
+      }
+
+  -- a row has been read: w is its residual, and p its pivot
+  module _ (w : List Float) (p : Pivot) (rows' list' : List ℕ) (row-is : w ≡ rowLess m n samples (t .us) (t .vs) k (s .next))
+      (pivot-is : p ≡ pivot w (isOn columns)) (rows-are : rows' ≡ cleared rows (s .next)) (list-is : list' ≡ set (t .«row-list») read (s .next)) where
+    row-long : length w ≡ n
+    unfolding residual
+    row-long = ap length row-is ∙ length-tabulate _ _
+
+    pivot-in : p .place < length w
+    unfolding pivot
+    pivot-in = rw pivot-is (argmax-in w (isOn columns) (rw row-long (ready .column-in)))
+
+    -- what is lent for the term
+    abbrev room : Lent
+    room = record { us = t .us; vs = t .vs; flags = columns; list = t .«column-list»; row = w; column = t .column }
+
+    pub term-fits : TermFits (length samples) k (p .place) room
+    term-fits =
+        record {
+          inside = pivot-in;
+          tall = ready .sizes .tall;
+          wide = rw row-long (ready .sizes .wide);
+          place = ready .term;
+          few = ready .few;
+          block = rw row-long (ready .sizes .block);
+          u-room = u-room;
+          v-room = rw row-long v-room;
+        }
+
+    -- the rows and the columns read before this step, and this row
+    abbrev is : List ℕ
+    is = take read (t .«row-list») ++ s .next ∷ []
+
+    abbrev js : List ℕ
+    js = take k (t .«column-list»)
+
+    abbrev us : List Float
+    us = take (k * m) (t .us)
+
+    abbrev vs : List Float
+    vs = take (k * n) (t .vs)
+
+    abbrev after-row : Found
+    after-row = found us vs is js w (t .column)
+
+    row-read : rowRead block s (standing read k t) ≡ after-row
+    unfolding rowRead
+    row-read =
+        ap (λ (l : List Float). found us vs is js l (t .column))
+        (residual-front n m k (s .next) (matrix m samples (s .next)) (t .vs) (t .us) (ready .row-in) ∙ sym row-is)
+
+    step-is : made samples tolerance s read t ≡ tried block tolerance s after-row p
+    unfolding step
+    step-is =
+        ap (λ (f : Found). tried block tolerance s f (pivot (f .row) (unread (f .columns)))) row-read
+        ∙ ap (tried block tolerance s after-row) (sym (pivot-unread w columns js (rw row-long (ready .sizes .wide)) (ready .columns-marked)) ∙ sym pivot-is)
+
+    -- it has no pivot
+    pub stopped : lt (p .size) tiny₆₄ ≡ true →
+        Stepped (made samples tolerance s read t) t (Stop spent s) (memory (t .us) (t .vs) list' (t .«column-list») w (t .column)) rows' columns
+    unfolding tried laid
+    stopped small =
+        rw (step-is, small)
+        record {
+          answer-is = refl;
+          memory-is =
+              let left : k * m ≤ length (t .us) = omega (arith, u-room) in
+              let right : k * n ≤ length (t .vs) = omega (arith, v-room) in
+              let some : k ≤ length (t .«column-list») = omega (arith, ready .term) in
+              rw
+              (← upon-same (k * m) (t .us) left, ← upon-same (k * n) (t .vs) right, ← upon-same k (t .«column-list») some, ← upon-set read (s .next) (t .«row-list») (ready .reading), list-is);
+          rows-marked = rw rows-are (marks-more rows (take read (t .«row-list»)) (s .next) (ready .rows-marked));
+          columns-marked = ready .columns-marked;
+        }
+
+    -- it has one: the column through it has been read, and the two are stored
+    module _ (r : Step) (l : Lent) (term-is : TermStored samples tolerance s (p .place) rows' room r l) where
+      abbrev j : ℕ
+      j = p .place
+
+      abbrev x : List Float
+      x = l .column
+
+      abbrev v : List Float
+      v = l .row
+
+      column-is : x ≡ columnLess m n samples (t .us) (t .vs) k j
+      column-is = rw row-long at (term-is .taken .column-is)
+
+      column-long : length x ≡ m
+      unfolding residual
+      column-long = ap length column-is ∙ length-tabulate _ _
+
+      v-long : length v ≡ n
+      unfolding multiplied
+      v-long = ap length (term-is .taken .row-is) ∙ length-tabulate _ _ ∙ row-long
+
+      abbrev after-column : Found
+      after-column = found us vs is (js ++ j ∷ []) v x
+
+      column-read : columnRead block s after-row j ≡ after-column
+      unfolding columnRead
+      column-read =
+          let inside : j < n = rw row-long at pivot-in in
+          rw (← term-is .taken .row-is)
+          (ap (found us vs is (js ++ j ∷ []) v) (residual-front m n k j (λ i. matrix m samples i j) (t .us) (t .vs) inside ∙ sym column-is))
+
+      weighed-is : weighed s after-column ≡ grown s (norm x v) (cross k (t .us) (t .vs) x v) (argmax x (isOn rows'))
+      unfolding weighed
+      weighed-is =
+          let shared : cross k us vs x v ≡ cross k (t .us) (t .vs) x v = rw (column-long, v-long) at (cross-front k (t .us) (t .vs) x v) in
+          let next : argmax x (isOn (cleared rows (s .next))) ≡ argmax x (unread is) =
+          argmax-unread x (cleared rows (s .next)) is (rw column-long (ready .sizes .tall)) (marks-more rows (take read (t .«row-list»)) (s .next) (ready .rows-marked)) in
+          rw (shared, rows-are, next)
+
+      accepted-is : accepted tolerance s after-column ≡ outcome r (stored after-column)
+      unfolding accepted
+      accepted-is = rw (weighed-is, ← term-is .answer-is)
+
+      pub went-on : lt (p .size) tiny₆₄ ≡ false →
+          Stepped (made samples tolerance s read t) t r (memory (l .us) (l .vs) list' (l .list) v x) rows' (l .flags)
+      unfolding tried laid stored
+      went-on large =
+          let us-are : l .us ≡ _ = rw column-long at (term-is .us-are) in
+          let vs-are : l .vs ≡ _ = rw v-long at (term-is .vs-are) in
+          rw (step-is, large, column-read, accepted-is)
+          record {
+            answer-is = refl;
+            memory-is =
+                rw
+                (← upon-set read (s .next) (t .«row-list») (ready .reading), ← upon-set k j (t .«column-list») (ready .term), ← upon-stretch (k * m) m x (t .us) nan column-long u-room, ← upon-stretch (k * n) n v (t .vs) nan v-long v-room, us-are, vs-are, list-is, term-is .taken .list-is);
+            rows-marked = rw rows-are (marks-more rows (take read (t .«row-list»)) (s .next) (ready .rows-marked));
+            columns-marked = rw (term-is .taken .flags-are) (marks-more columns js j (ready .columns-marked));
+          }

@@ -1,0 +1,102 @@
+-- `aca_steps::onward::advance` meets its contract: what it does in memory is one step of the rule. Assumes nothing.
+use borrow.Author.Needs.{needs}
+use Rattle.aca_steps.proofs.OneStep.{row-fits, term-fits, stopped, went-on}
+use Rattle.aca_steps.proofs.onward.advance.Statement.{statement}
+use Rattle.aca_steps.proofs.onward.advance.Tie as tie
+
+-- THE PLACES, each from the one after it; the row has no pivot, or has one
+abbrev accepted : tie.After-slice-known13 → tie.After-accept
+accepted c = c .before .before .before .before .before .before .before .before .before .before
+
+abbrev pivoted : tie.After-accept → tie.Else1
+pivoted c = c .before .before .before .before .before .before .before .before
+
+abbrev row-taken' : tie.Else1 → tie.After-take-row
+row-taken' c = c .before .before .before .before .before .before
+
+abbrev row-taken : tie.Then1 → tie.After-take-row
+row-taken c = c .before .before .before .before .before .before
+
+abbrev first : tie.After-take-row-arg6 → tie.Start
+first c = c .before .before .before .before .before .before .before .before .before .before .before .before .before
+
+abbrev start : tie.After-take-row → tie.Start
+start c = first (c .before)
+
+take-row-requires : tie.Need-take-row-requires
+take-row-requires c κs =
+    let s = first c in
+    row-fits (s .args .samples .now) (s .args .tolerance) (s .args .s) (s .args .read) _ _ _ (s .pre)
+
+same-length : tie.Need-same-length
+same-length c = search needs
+
+same-length-2 : tie.Need-same-length-2
+same-length-2 c = search needs
+
+same-length-3 : tie.Need-same-length-3
+same-length-3 c = search needs
+
+same-length-4 : tie.Need-same-length-4
+same-length-4 c = search needs
+
+returns : tie.Need-returns
+returns c =
+    let r = row-taken c .take-row in
+    let s = start (row-taken c) in
+    stopped (s .args .samples .now) (s .args .tolerance) (s .args .s) (s .args .read) _ _ _ (s .pre) _ _ _ _
+    (r .ensures .1 .0) (r .ensures .0) (r .ensures .1 .1 .0) (r .ensures .1 .1 .1) (c .if1 .taken)
+
+accept-requires : tie.Need-accept-requires
+accept-requires c κs =
+    let t = row-taken' (c .before .before .before .before .before .before .before) in
+    let r = t .take-row in
+    let s = start t in
+    term-fits (s .args .samples .now) (s .args .tolerance) (s .args .s) (s .args .read) _ _ _ (s .pre) _ _ _ _
+    (r .ensures .1 .0) (r .ensures .0) (r .ensures .1 .1 .0) (r .ensures .1 .1 .1)
+
+same-length-5 : tie.Need-same-length-5
+same-length-5 c = search needs
+
+same-length-6 : tie.Need-same-length-6
+same-length-6 c = search needs
+
+same-length-7 : tie.Need-same-length-7
+same-length-7 c = search needs
+
+same-length-8 : tie.Need-same-length-8
+same-length-8 c = search needs
+
+same-length-9 : tie.Need-same-length-9
+same-length-9 c = search needs
+
+same-length-10 : tie.Need-same-length-10
+same-length-10 c = search needs
+
+returns-2 : tie.Need-returns-2
+returns-2 c =
+    let a = accepted c in
+    let p = pivoted a in
+    let r = row-taken' p .take-row in
+    let s = start (row-taken' p) in
+    went-on (s .args .samples .now) (s .args .tolerance) (s .args .s) (s .args .read) _ _ _ (s .pre) _ _ _ _
+    (r .ensures .1 .0) (r .ensures .0) (r .ensures .1 .1 .0) (r .ensures .1 .1 .1) _ _ (a .accept .ensures) (p .if1 .left)
+
+pub advance-spec : {M : Type 1} → statement M
+advance-spec =
+    tie.close
+    (tie.spec
+    take-row-requires
+    same-length
+    same-length-2
+    same-length-3
+    same-length-4
+    returns
+    accept-requires
+    same-length-5
+    same-length-6
+    same-length-7
+    same-length-8
+    same-length-9
+    same-length-10
+    returns-2)

@@ -1,0 +1,4 @@
+pub mod Crosses
+pub mod Memories
+pub mod Standing
+pub mod Working

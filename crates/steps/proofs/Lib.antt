@@ -1,4 +1,0 @@
-pub mod Fronts
-pub mod Marked
-pub mod OneStep
-pub mod Determined

@@ -1,3 +1,0 @@
-pub mod Crosses
-pub mod Memories
-pub mod Standing

@@ -19,7 +19,7 @@ use Rattle.common.proofs.Limits.{power-rows}
 use Rattle.common.proofs.Rows.{row-place, rows-more}
 use Rattle.common.proofs.Stores.{length-stores}
 use Rattle.common.proofs.Sums.{sums-more, sums-cong}
-use Rattle.transfer.specs.Tensor.{passed, entry, block, along, ends}
+use Rattle.transfer.specs.Tensor.{passed, directed, operatorHalf, along, ends}
 use Rattle.transfer.specs.Working.{Laid, added, summed}
 
 -- THE BLOCK of the operators: the lower starts at 0, and the upper past p columns of p entries
@@ -44,12 +44,12 @@ module _ (p side : ℕ) (l : List Float) (two : side < 2) (e : length l ≡ (p +
 
 -- row r of the operator, where it stands: a column of the block if that is transposed, else a row
 module _ (p r : ℕ) (l : List Float) (transpose : Bool) where
-  pub row-transposed : transpose ≡ true → (s : ℕ) → spaced l (r * p) 1 s ≡ entry transpose (matrix p l) r s
-  unfolding entry
+  pub row-transposed : transpose ≡ true → (s : ℕ) → spaced l (r * p) 1 s ≡ directed transpose (matrix p l) r s
+  unfolding directed
   row-transposed e s = rw (e, one-mul s)
 
-  pub row-standing : transpose ≡ false → (s : ℕ) → spaced l r p s ≡ entry transpose (matrix p l) r s
-  unfolding entry
+  pub row-standing : transpose ≡ false → (s : ℕ) → spaced l r p s ≡ directed transpose (matrix p l) r s
+  unfolding directed
   row-standing e s = rw (e, row-place p r s)
 
 -- a further row is laid
@@ -120,22 +120,22 @@ module _ (p width : ℕ) (values operator : ℕ → ℕ → Float) where
       column-cong width output p (λ c r. inner p (λ s. values s c) (other r))
       (λ c r _ b. sums-cong p _ _ (λ s b'. ap (times (values s c)) (same r s b b')))
 
-pub entry-cong : (transpose : Bool) (o o' : ℕ → ℕ → Float) (p : ℕ) → ((r s : ℕ) → r < p → s < p → o r s ≡ o' r s) →
-    (r s : ℕ) → r < p → s < p → entry transpose o r s ≡ entry transpose o' r s
-unfolding entry
-entry-cong true o o' p same r s b b' = same s r b' b
-entry-cong false o o' p same r s b b' = same r s b b'
+pub directed-cong : (transpose : Bool) (o o' : ℕ → ℕ → Float) (p : ℕ) → ((r s : ℕ) → r < p → s < p → o r s ≡ o' r s) →
+    (r s : ℕ) → r < p → s < p → directed transpose o r s ≡ directed transpose o' r s
+unfolding directed
+directed-cong true o o' p same r s b b' = same s r b' b
+directed-cong false o o' p same r s b b' = same r s b b'
 
 -- the pass along an axis, over the part of the operators that is handed on
 pub along-block : (p width child axis side end : ℕ) (transpose : Bool) (operators values : List Float) → side ≡ child / 2 ^ axis % 2 →
     end ≡ side * (p * p) + p * p → length operators ≡ (p + p) * p →
-    passed p width (matrix p values) (entry transpose (matrix p (take (end - side * (p * p)) (drop (side * (p * p)) operators)))) ≡
+    passed p width (matrix p values) (directed transpose (matrix p (take (end - side * (p * p)) (drop (side * (p * p)) operators)))) ≡
     along p width child transpose operators axis values
-unfolding along block
+unfolding along operatorHalf
 along-block p width child axis side end transpose operators values e e' long =
     let two : side < 2 = rw e (mod-lt (child / 2 ^ axis) (omega arith)) in
     passed-cong p width (matrix p values) _ _
-    (entry-cong transpose _ _ p (λ r s b b'. block-entry p side operators two long end r s e' b b' ∙ ap (λ (n : ℕ). matrix p operators r (n * p + s)) e))
+    (directed-cong transpose _ _ p (λ r s b b'. block-entry p side operators two long end r s e' b b' ∙ ap (λ (n : ℕ). matrix p operators r (n * p + s)) e))
 
 -- THE BUFFERS after the passes of one, two and three axes, each of width w
 

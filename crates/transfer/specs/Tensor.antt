@@ -14,18 +14,18 @@ unfoldable pub passed : (p width : ℕ) → (values operator : ℕ → ℕ → F
 passed p width values operator = columnMajor width p (λ c r. inner p (λ s. values s c) (operator r))
 
 -- operator (r, s) for M2M, (s, r) for L2L
-unfoldable pub entry : (transpose : Bool) → (operator : ℕ → ℕ → Float) → (r s : ℕ) → Float
-entry transpose operator r s = cond transpose (operator s r) (operator r s)
+unfoldable pub directed : (transpose : Bool) → (operator : ℕ → ℕ → Float) → (r s : ℕ) → Float
+directed transpose operator r s = cond transpose (operator s r) (operator r s)
 
--- The operators' lower block is their first p columns, and the upper block the next p. Along an axis it is the lower one where bit
+-- The operators' lower half is their first p columns, and the upper half the next p. Along an axis it is the lower one where bit
 -- `axis` of the child is 0, else the upper.
-unfoldable pub block : (p child axis : ℕ) → (operators : List Float) → (r s : ℕ) → Float
-block p child axis operators r s = matrix p operators r (child / 2 ^ axis % 2 * p + s)
+unfoldable pub operatorHalf : (p child axis : ℕ) → (operators : List Float) → (r s : ℕ) → Float
+operatorHalf p child axis operators r s = matrix p operators r (child / 2 ^ axis % 2 * p + s)
 
 -- the pass along an axis
 unfoldable pub along : (p width child : ℕ) → (transpose : Bool) → (operators : List Float) → (axis : ℕ) → (values : List Float) → List Float
 along p width child transpose operators axis values =
-    passed p width (matrix p values) (entry transpose (block p child axis operators))
+    passed p width (matrix p values) (directed transpose (operatorHalf p child axis operators))
 
 -- What two buffers hold once the passes of the axes below n are done, the highest first, each from one buffer to the other:
 -- the one that the first pass reads, and the one that it writes.

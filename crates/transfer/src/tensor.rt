@@ -6,7 +6,7 @@ ghost use Rattle.common.specs.Floats.{zero₆₄, spaced};
 ghost use Rattle.common.specs.Lists.{tabulate, stores};
 ghost use Rattle.common.specs.Matrices.{matrix, columnMajor};
 ghost use Rattle.common.specs.Refusals.{Shape};
-ghost use Rattle.transfer.specs.Tensor.{entry, passed, along, ends, transferNumber, transferCall};
+ghost use Rattle.transfer.specs.Tensor.{directed, passed, along, ends, transferNumber, transferCall};
 ghost use Rattle.transfer.specs.Working.{Spaced, Laid, added, summed};
 
 // How many rows of the operator a pass takes at a time.
@@ -36,7 +36,7 @@ fn copy_spaced(
 fn lay_row(order: usize, block: &[f64], transpose: bool, r: usize, lane: usize, strip: &mut [f64])
     requires { ⌜ (order ≤ 16) × (r < order) × (lane < 4) × (length (now block) ≡ order * order) × (length (now strip) ≡ 64) ⌝ }
     ensures { λ _. ⌜ now (strip .exit) ≡
-        stores (λ s. lane + 4 * s) (entry transpose (matrix order (now (block .entry))) r) order (now (strip .entry)) ⌝ }
+        stores (λ s. lane + 4 * s) (directed transpose (matrix order (now (block .entry))) r) order (now (strip .entry)) ⌝ }
 {
     if transpose {
         copy_spaced(order, block, r * order, 1, lane, LANES, strip);
@@ -55,7 +55,7 @@ fn lay_strip(
     strip: &mut [f64],
 )
     requires { ⌜ (order ≤ 16) × (first + rows ≤ order) × (rows ≤ 4) × (length (now block) ≡ order * order) × (length (now strip) ≡ 64) ⌝ }
-    ensures { λ _. ⌜ Laid order (entry transpose (matrix order (now (block .entry)))) first rows (now (strip .exit)) ⌝ }
+    ensures { λ _. ⌜ Laid order (directed transpose (matrix order (now (block .entry)))) first rows (now (strip .exit)) ⌝ }
 {
     let mut k = 0;
     while k < rows {
@@ -121,7 +121,7 @@ fn pass(order: usize, width: usize, values: &[f64], block: &[f64], transpose: bo
     requires { ⌜ (order ≤ 16) × (length (now values) ≡ width * order) × (length (now block) ≡ order * order) ×
         (length (now out) ≡ order * width) ⌝ }
     ensures { λ _. ⌜ now (out .exit) ≡
-        passed order width (matrix order (now (values .entry))) (entry transpose (matrix order (now (block .entry)))) ⌝ }
+        passed order width (matrix order (now (values .entry))) (directed transpose (matrix order (now (block .entry)))) ⌝ }
 {
     let mut strip = [0.0; 64];
     let mut at = 0;

@@ -8,7 +8,7 @@ use Rattle.common.specs.Floats.{inner}
 use Rattle.common.specs.Lists.{stretch}
 use Rattle.common.specs.Matrices.{cell, matrix}
 use Rattle.common.proofs.Fill.{part-length, stretch-length}
-use Rattle.transfer.specs.Tensor.{entry}
+use Rattle.transfer.specs.Tensor.{directed}
 use Rattle.transfer.proofs.Passes.{few-rows, rows-fit, strip-filled, rows-all}
 use borrow.Author.Needs.{needs}
 use Rattle.transfer.proofs.tensor.pass.Statement.{statement}
@@ -17,7 +17,7 @@ use Rattle.transfer.proofs.tensor.pass.Tie as tie
 abbrev Inv-loop : tie.InvT-loop
 Inv-loop order width values block transpose out₀ strip₀ at₀ r₀ out strip at r =
     (r ≤ order) × (at ≡ r * width) × (length out ≡ length out₀) × (length strip ≡ 64) ×
-    (out ≡ stretch 0 at (cell width (λ c r. inner order (λ s. matrix order values s c) (entry transpose (matrix order block) r))) out₀)
+    (out ≡ stretch 0 at (cell width (λ c r. inner order (λ s. matrix order values s c) (directed transpose (matrix order block) r))) out₀)
 
 abbrev μ-loop : tie.MeasureT-loop
 μ-loop order width values block transpose out₀ strip₀ at₀ r₀ out strip at r = order - r
@@ -96,7 +96,7 @@ loop-again c =
     let l = d .before .before .loop in
     let s = d .before .before .before .before .before .before in
     let a = s .args in
-    let made = strip-filled (a .order) (a .width) (matrix (a .order) (a .values .now)) (entry (a .transpose) (matrix (a .order) (a .block .now))) (a .out .now)
+    let made = strip-filled (a .order) (a .width) (matrix (a .order) (a .values .now)) (directed (a .transpose) (matrix (a .order) (a .block .now))) (a .out .now)
     (l .out) _ _ (l .r) (d .least .result) (l .at) (l .at + d .least .result * a .width) (l .inv .1) refl
     (rw (l .inv .2) at (room d)) (c .before .before .before .before .before .before .lay-strip .ensures) (c .before .before .pass-strip .ensures) (l .inv .2) (l .inv .4) in (
       few d .1,
@@ -115,7 +115,7 @@ returns c =
     let s = c .before .before .before .before .before in
     let a = s .args in
     let all : l .r ≡ a .order = omega arith in
-    l .inv .4 ∙ rows-all (a .order) (a .width) (matrix (a .order) (a .values .now)) (entry (a .transpose) (matrix (a .order) (a .block .now))) (a .out .now)
+    l .inv .4 ∙ rows-all (a .order) (a .width) (matrix (a .order) (a .values .now)) (directed (a .transpose) (matrix (a .order) (a .block .now))) (a .out .now)
     (l .at) (s .pre .3) (rw all at (l .inv .1))
 
 pub pass-spec : {M : Type 1} → statement M

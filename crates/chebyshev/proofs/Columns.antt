@@ -1,4 +1,4 @@
--- The columns of T and T': what each is, from the columns before it. Assumes nothing.
+-- Columns of a recurrence: what each is, from the columns before it; and so of T and T'. Assumes nothing.
 use mathlib.Core.Path.{_≡_, refl, sym, ap, _∙_}
 use mathlib.Core.List.{List}
 use Prim.Native.Nat.{ℕ, zero, suc, _+_, _-_, _*_, _<_, _≤_}
@@ -8,13 +8,12 @@ use native.Mathlib.Omega.{arith}
 use lib.Ieee.{Float, nan}
 use lib.ListN.{length, getD}
 use Rattle.common.specs.Lists.{stretch}
-use Rattle.common.specs.Floats.{zero₆₄, one₆₄}
+use Rattle.common.specs.Floats.{minus}
 use Rattle.common.specs.Matrices.{cell}
 use Rattle.common.proofs.Fill.{fill-on, fill-read}
-use Rattle.common.proofs.Matrices.{next-column, cell-at, column-entry, columns-filled}
+use Rattle.common.proofs.Matrices.{next-column, cell-at, columns-filled}
 use Rattle.chebyshev.specs.Polynomials.{T, T′, atPoints}
-use Rattle.chebyshev.specs.Polynomials.{nextT, nextT′}
-use Rattle.chebyshev.specs.Working.{columnT, columnT′}
+use Rattle.chebyshev.specs.Working.{columnOf, columnT, columnT′}
 
 -- from the third column on there are two columns before
 pub two-before : (j rows at : ℕ) → at ≡ j * rows → (j ≡ 0 → ⊥) → (j ≡ 1 → ⊥) → rows + rows ≤ at
@@ -22,47 +21,24 @@ two-before j rows at e a b = let two = mul-le-mul {n₁ = 2} {m₁ = rows} {n₂
 
 -- EACH COLUMN by its number
 
-module _ (rows : ℕ) (x v : List Float) (at : ℕ) where
-  pub first-column : (j : ℕ) → j ≡ 0 → columnT j rows x v at ≡ (λ i. one₆₄)
-  unfolding columnT
-  first-column j e = rw e
+module _ (first second later : ℕ → Float) (j : ℕ) where
+  pub is-first : j ≡ 0 → columnOf first second later j ≡ first
+  unfolding columnOf
+  is-first e = rw e
 
-  pub second-column : (j : ℕ) → j ≡ 1 → columnT j rows x v at ≡ (λ i. getD x i nan)
-  unfolding columnT
-  second-column j e = rw e
+  pub is-second : j ≡ 1 → columnOf first second later j ≡ second
+  unfolding columnOf
+  is-second e = rw e
 
-  pub later-column : (j : ℕ) → (j ≡ 0 → ⊥) → (j ≡ 1 → ⊥) →
-      columnT j rows x v at ≡ (λ i. nextT (getD x i nan) (getD v (at - rows + i) nan) (getD v (at - rows - rows + i) nan))
-  unfolding columnT
-  later-column zero a b = absurd (a refl)
-  later-column (suc zero) a b = absurd (b refl)
-  later-column (suc (suc j)) a b = refl
-
-  module _ (d : List Float) where
-    pub first-slopes : (j : ℕ) → j ≡ 0 → columnT′ j rows x v d at ≡ (λ i. zero₆₄)
-    unfolding columnT′
-    first-slopes j e = rw e
-
-    pub second-slopes : (j : ℕ) → j ≡ 1 → columnT′ j rows x v d at ≡ (λ i. one₆₄)
-    unfolding columnT′
-    second-slopes j e = rw e
-
-    pub later-slopes : (j : ℕ) → (j ≡ 0 → ⊥) → (j ≡ 1 → ⊥) → columnT′ j rows x v d at
-        ≡ (λ i. nextT′ (getD x i nan) (getD v (at - rows + i) nan) (getD d (at - rows + i) nan) (getD d (at - rows - rows + i) nan))
-    unfolding columnT′
-    later-slopes zero a b = absurd (a refl)
-    later-slopes (suc zero) a b = absurd (b refl)
-    later-slopes (suc (suc j)) a b = refl
+pub is-later : (first second later : ℕ → Float) (j : ℕ) → (j ≡ 0 → ⊥) → (j ≡ 1 → ⊥) → columnOf first second later j ≡ later
+unfolding columnOf
+is-later first second later zero a b = absurd (a refl)
+is-later first second later (suc zero) a b = absurd (b refl)
+is-later first second later (suc (suc j)) a b = refl
 
 -- FILLING COLUMN BY COLUMN
 
-module _ (rows : ℕ) (x : List Float) where
-  abbrev entryT : ℕ → ℕ → Float
-  entryT i j = T j (getD x i nan)
-
-  abbrev entryT′ : ℕ → ℕ → Float
-  entryT′ i j = T′ j (getD x i nan)
-
+module _ (rows : ℕ) where
   -- the places of an entry one column before, and two
   place-one : (j i at : ℕ) → at ≡ suc j * rows → at - rows + i ≡ j * rows + i
   place-one j i at e = let e' : at ≡ (j + 1) * rows = rw (add-one j) e in let more = next-column j rows in omega arith
@@ -88,35 +64,47 @@ module _ (rows : ℕ) (x : List Float) where
         let some = two-before (suc (suc j)) rows at e (λ z. omega arith) (λ z. omega arith) in
         fill-read at (cell rows f) l (at - rows - rows + i) nan (omega arith) ∙ ap (cell rows f) (place-two j i at e) ∙ cell-at rows f i j h
 
-  -- a column is that of the definition
-  column-right : (l : List Float) (j i at : ℕ) → i < rows → at ≡ j * rows → columnT j rows x (stretch 0 at (cell rows entryT) l) at i ≡ T j (getD x i nan)
-  unfolding columnT T
-  column-right l zero i at h e = refl
-  column-right l (suc zero) i at h e = refl
-  column-right l (suc (suc j)) i at h e = rw (back-one entryT l (suc j) i at h e, back-two entryT l j i at h e)
-
-  slopes-right : (order : ℕ) (l : List Float) (j i at : ℕ) → i < rows → j < order → at ≡ j * rows →
-      columnT′ j rows x (atPoints T order rows x) (stretch 0 at (cell rows entryT′) l) at i ≡ T′ j (getD x i nan)
-  unfolding columnT′ T′
-  slopes-right order l zero i at h m e = refl
-  slopes-right order l (suc zero) i at h m e = refl
-  slopes-right order l (suc (suc j)) i at h m e =
-      let value : getD (atPoints T order rows x) (at - rows + i) nan ≡ T (suc j) (getD x i nan) =
-      ap (λ (k : ℕ). getD (atPoints T order rows x) k nan) (place-one (suc j) i at e) ∙ column-entry rows entryT order i (suc j) nan h (omega arith) in
-      rw (value, back-one entryT′ l (suc j) i at h e, back-two entryT′ l j i at h e)
-
-  -- one more column is filled
-  module _ (l now : List Float) (j at : ℕ) (e : at ≡ j * rows) (fits : at + rows ≤ length l) where
-    pub column-filled : now ≡ stretch 0 at (cell rows entryT) l → stretch at rows (columnT j rows x now at) now ≡ stretch 0 (at + rows) (cell rows entryT) l
-    column-filled made =
+  -- One more column of a matrix f is filled, where its first two columns are as f says, and a later one follows from f's recurrence.
+  module _ (f : ℕ → ℕ → Float) (l now : List Float) (j at : ℕ) (e : at ≡ j * rows) (fits : at + rows ≤ length l) where
+    pub column-filled : (first second later : ℕ → Float) → ((i : ℕ) → first i ≡ f i 0) → ((i : ℕ) → second i ≡ f i 1) →
+        ((k i : ℕ) → j ≡ suc (suc k) → i < rows → later i ≡ f i (suc (suc k))) → now ≡ stretch 0 at (cell rows f) l →
+        stretch at rows (columnOf first second later j) now ≡ stretch 0 (at + rows) (cell rows f) l
+    unfolding columnOf
+    column-filled first second later a b c made =
         rw made
-        (fill-on at rows (cell rows entryT) _ l (λ i h. column-right l j i at h e ∙ sym (rw e (cell-at rows entryT i j h))) fits)
+        (fill-on at rows (cell rows f) _ l (λ i h. right j i refl h ∙ sym (rw e (cell-at rows f i j h))) fits)
+      where
+        right : (k i : ℕ) → j ≡ k → i < rows → columnOf first second later k i ≡ f i k
+        right zero i q h = a i
+        right (suc zero) i q h = b i
+        right (suc (suc k)) i q h = c k i q h
 
-    pub slopes-filled : (order : ℕ) (v : List Float) → v ≡ atPoints T order rows x → j < order → now ≡ stretch 0 at (cell rows entryT′) l →
-        stretch at rows (columnT′ j rows x v now at) now ≡ stretch 0 (at + rows) (cell rows entryT′) l
-    slopes-filled order v whole m made =
-        rw (made, whole)
-        (fill-on at rows (cell rows entryT′) _ l (λ i h. slopes-right order l j i at h m e ∙ sym (rw e (cell-at rows entryT′ i j h))) fits)
+module _ (rows : ℕ) (x : List Float) where
+  abbrev entryT : ℕ → ℕ → Float
+  entryT i j = T j (getD x i nan)
+
+  abbrev entryT′ : ℕ → ℕ → Float
+  entryT′ i j = T′ j (getD x i nan)
+
+  module _ (l now : List Float) (j at : ℕ) (e : at ≡ j * rows) (fits : at + rows ≤ length l) (made : now ≡ stretch 0 at (cell rows entryT) l) where
+    -- T before, where it stands
+    value-before : (k i : ℕ) → j ≡ suc k → i < rows → getD now (at - rows + i) nan ≡ T k (getD x i nan)
+    value-before k i q h = rw made (back-one rows entryT l k i at h (rw q at e))
+
+    pub values-filled : stretch at rows (columnT j rows x now at) now ≡ stretch 0 (at + rows) (cell rows entryT) l
+    unfolding T
+    values-filled =
+        column-filled rows entryT l now j at e fits _ _ _ (λ i. refl) (λ i. refl)
+        (λ k i q h. rw (value-before (suc k) i q h) (ap (minus _) (rw made (back-two rows entryT l k i at h (rw q at e))))) made
+
+    pub slopes-filled : (l' now' : List Float) → at + rows ≤ length l' → now' ≡ stretch 0 at (cell rows entryT′) l' →
+        stretch at rows (columnT′ j rows x now now' at) now' ≡ stretch 0 (at + rows) (cell rows entryT′) l'
+    unfolding T′
+    slopes-filled l' now' fits' made' =
+        column-filled rows entryT′ l' now' j at e fits' _ _ _ (λ i. refl) (λ i. refl)
+        (λ k i q h. let one : getD now' (at - rows + i) nan ≡ entryT′ i (suc k) = rw made' (back-one rows entryT′ l' (suc k) i at h (rw q at e)) in
+        let two : getD now' (at - rows - rows + i) nan ≡ entryT′ i k = rw made' (back-two rows entryT′ l' k i at h (rw q at e)) in
+        rw (value-before (suc k) i q h, one, two)) made'
 
   -- all columns are filled
   pub columns-all : (f : ℕ → Float → Float) (order at : ℕ) (l : List Float) → length l ≡ order * rows → at ≡ order * rows →

@@ -7,7 +7,7 @@ use lib.Ieee.{Float, nan}
 use lib.ListN.{length, getD}
 use Rattle.common.specs.Floats.{plus, minus, times, zero₆₄, one₆₄, two₆₄}
 use Rattle.common.specs.Matrices.{columnMajor}
-use Rattle.common.specs.Refusals.{noOrder, noCount, wrongLength, sizeIf, unless, isOrder, left}
+use Rattle.common.specs.Refusals.{noOrder, noCount, wrongLength, sizeIf, unless, isOrder, mostPoints, left}
 
 -- one step of the recurrence, from the two values before: (2x)*T(j-1) - T(j-2)
 abbrev pub nextT : (x t1 t2 : Float) → Float
@@ -38,7 +38,7 @@ atPoints f p P points = columnMajor P p (λ i j. f j (getD points i nan))
 unfoldable pub polynomialsNumber : (p P : ℕ) → (with : Bool) → (points values slopes : ℕ) → ℕ
 polynomialsNumber p P with n v d =
     unless (isOrder p) noOrder
-    (unless (leb P 4096) noCount (unless (eqb n P && (eqb v (p * P) && eqb d (sizeIf with (p * P)))) wrongLength 0))
+    (unless (leb P mostPoints) noCount (unless (eqb n P && (eqb v (p * P) && eqb d (sizeIf with (p * P)))) wrongLength 0))
 
 -- its number and both buffers after it
 unfoldable pub polynomialsCall : (p P : ℕ) → (with : Bool) → (points values slopes : List Float) → ℕ × List Float × List Float

@@ -1,16 +1,15 @@
 // The Chebyshev polynomials T and their derivatives T' at a list of points, column by column.
 ghost use mathlib.Core.Path.{_≡_};
 ghost use Prim.Native.Nat.{_+_, _*_, _-_, _<_, _≤_};
-ghost use lib.Ieee.{nan};
-ghost use lib.ListN.{length, getD};
+ghost use lib.ListN.{length};
 ghost use Rattle.common.specs.Lists.{stretch};
-ghost use Rattle.chebyshev.specs.Polynomials.{nextT, nextT′, T, T′, atPoints, polynomialsNumber, polynomialsCall};
-ghost use Rattle.chebyshev.specs.Working.{columnT, columnT′};
+ghost use Rattle.chebyshev.specs.Polynomials.{T, T′, atPoints, polynomialsNumber, polynomialsCall};
+ghost use Rattle.chebyshev.specs.Working.{laterT, laterT′, columnT, columnT′};
 
 // The next column of T, at place `at`, from the two columns before it.
 fn next_polynomials(rows: usize, points: &[f64], at: usize, tn: &mut [f64])
     requires { ⌜ (length (now points) ≡ rows) × (rows + rows ≤ at) × (at + rows ≤ length (now tn)) ⌝ }
-    ensures { λ _. ⌜ now (tn .exit) ≡ stretch at rows (λ i. nextT (getD (now (points .entry)) i nan) (getD (now (tn .entry)) (at - rows + i) nan) (getD (now (tn .entry)) (at - rows - rows + i) nan)) (now (tn .entry)) ⌝ }
+    ensures { λ _. ⌜ now (tn .exit) ≡ stretch at rows (laterT rows (now (points .entry)) (now (tn .entry)) at) (now (tn .entry)) ⌝ }
 {
     let before = at - rows;
     let last = before - rows;
@@ -21,17 +20,21 @@ fn next_polynomials(rows: usize, points: &[f64], at: usize, tn: &mut [f64])
     }
 }
 
-// The next column of T', at place `at`, from the columns before it.
-fn next_derivatives(rows: usize, points: &[f64], tn: &[f64], at: usize, dtn: &mut [f64])
+// The next columns of T and T', at place `at`, from the columns before them; 2x and T before are read once for both.
+fn next_columns(rows: usize, points: &[f64], at: usize, tn: &mut [f64], dtn: &mut [f64])
     requires { ⌜ (length (now points) ≡ rows) × (rows + rows ≤ at) × (at + rows ≤ length (now tn)) × (at + rows ≤ length (now dtn)) ⌝ }
-    ensures { λ _. ⌜ now (dtn .exit) ≡ stretch at rows (λ i. nextT′ (getD (now (points .entry)) i nan) (getD (now (tn .entry)) (at - rows + i) nan) (getD (now (dtn .entry)) (at - rows + i) nan) (getD (now (dtn .entry)) (at - rows - rows + i) nan)) (now (dtn .entry)) ⌝ }
+    ensures { λ _. ⌜ (now (tn .exit) ≡ stretch at rows (laterT rows (now (points .entry)) (now (tn .entry)) at) (now (tn .entry))) ×
+        (now (dtn .exit) ≡
+        stretch at rows (laterT′ rows (now (points .entry)) (now (tn .entry)) (now (dtn .entry)) at) (now (dtn .entry))) ⌝ }
 {
     let before = at - rows;
     let last = before - rows;
     let mut i = 0;
     while i < rows {
-        dtn[at + i] = ((2.0 * tn[before + i]) + ((2.0 * points[i]) * dtn[before + i]))
-            - dtn[last + i];
+        let twice = 2.0 * points[i];
+        let t = tn[before + i];
+        tn[at + i] = twice * t - tn[last + i];
+        dtn[at + i] = ((2.0 * t) + (twice * dtn[before + i])) - dtn[last + i];
         i += 1;
     }
 }
@@ -50,17 +53,21 @@ fn polynomial_column(j: usize, rows: usize, points: &[f64], at: usize, tn: &mut 
     }
 }
 
-// Column j of T', at place `at`.
-fn derivative_column(j: usize, rows: usize, points: &[f64], tn: &[f64], at: usize, dtn: &mut [f64])
+// Column j of T and of T', at place `at`.
+fn both_columns(j: usize, rows: usize, points: &[f64], at: usize, tn: &mut [f64], dtn: &mut [f64])
     requires { ⌜ (length (now points) ≡ rows) × (at ≡ j * rows) × (at + rows ≤ length (now tn)) × (at + rows ≤ length (now dtn)) ⌝ }
-    ensures { λ _. ⌜ now (dtn .exit) ≡ stretch at rows (columnT′ j rows (now (points .entry)) (now (tn .entry)) (now (dtn .entry)) at) (now (dtn .entry)) ⌝ }
+    ensures { λ _. ⌜ (now (tn .exit) ≡ stretch at rows (columnT j rows (now (points .entry)) (now (tn .entry)) at) (now (tn .entry))) ×
+        (now (dtn .exit) ≡
+        stretch at rows (columnT′ j rows (now (points .entry)) (now (tn .entry)) (now (dtn .entry)) at) (now (dtn .entry))) ⌝ }
 {
     if j == 0 {
+        common::fill_with(1.0, rows, at, tn);
         common::fill_with(0.0, rows, at, dtn);
     } else if j == 1 {
+        common::copy_column(rows, points, at, tn);
         common::fill_with(1.0, rows, at, dtn);
     } else {
-        next_derivatives(rows, points, tn, at, dtn);
+        next_columns(rows, points, at, tn, dtn);
     }
 }
 
@@ -77,14 +84,15 @@ fn fill_polynomials(order: usize, rows: usize, points: &[f64], tn: &mut [f64])
     }
 }
 
-fn fill_derivatives(order: usize, rows: usize, points: &[f64], tn: &[f64], dtn: &mut [f64])
-    requires { ⌜ (length (now points) ≡ rows) × (now tn ≡ atPoints T order rows (now points)) × (length (now dtn) ≡ order * rows) ⌝ }
-    ensures { λ _. ⌜ now (dtn .exit) ≡ atPoints T′ order rows (now (points .entry)) ⌝ }
+fn fill_both(order: usize, rows: usize, points: &[f64], tn: &mut [f64], dtn: &mut [f64])
+    requires { ⌜ (length (now points) ≡ rows) × (length (now tn) ≡ order * rows) × (length (now dtn) ≡ order * rows) ⌝ }
+    ensures { λ _. ⌜ (now (tn .exit) ≡ atPoints T order rows (now (points .entry))) ×
+        (now (dtn .exit) ≡ atPoints T′ order rows (now (points .entry))) ⌝ }
 {
     let mut j = 0;
     let mut at = 0;
     while j < order {
-        derivative_column(j, rows, points, tn, at, dtn);
+        both_columns(j, rows, points, at, tn, dtn);
         at += rows;
         j += 1;
     }
@@ -101,11 +109,11 @@ fn polynomials_number(
 ) -> u8
     ensures { λ r. ⌜ r ≡ polynomialsNumber order rows «with_derivatives» points tn dtn ⌝ }
 {
-    let refused = common::order_number(order);
-    if refused != 0 {
-        return refused;
+    let wrong = common::order_number(order);
+    if wrong != 0 {
+        return wrong;
     }
-    if 4096 < rows {
+    if common::MOST_POINTS < rows {
         return common::NO_COUNT;
     }
     if points != rows {
@@ -129,7 +137,8 @@ pub fn evaluate_chebyshev_polynomials(
     tn: &mut [f64],
     dtn: &mut [f64],
 ) -> u8
-    ensures { λ r. ⌜ (r, now (tn .exit), now (dtn .exit)) ≡ polynomialsCall order rows «with_derivatives» (now (points .entry)) (now (tn .entry)) (now (dtn .entry)) ⌝ }
+    ensures { λ r. ⌜ (r, now (tn .exit), now (dtn .exit)) ≡
+        polynomialsCall order rows «with_derivatives» (now (points .entry)) (now (tn .entry)) (now (dtn .entry)) ⌝ }
 {
     let refused = polynomials_number(
         order,
@@ -142,9 +151,10 @@ pub fn evaluate_chebyshev_polynomials(
     if refused != 0 {
         return refused;
     }
-    fill_polynomials(order, rows, points, tn);
     if with_derivatives {
-        fill_derivatives(order, rows, points, tn, dtn);
+        fill_both(order, rows, points, tn, dtn);
+    } else {
+        fill_polynomials(order, rows, points, tn);
     }
     0
 }

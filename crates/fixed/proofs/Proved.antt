@@ -13,7 +13,7 @@ use Rattle.turn.specs.Turned.{reversed, negative, axisOf, placeOf, turnedIndex,
 use Rattle.turn.specs.Tables.{tableNumber, tableCall}
 use Rattle.turn.specs.LookUps.{lookUpNumber, knownOf, lookUp}
 use Rattle.chebyshev.specs.Polynomials.{T, T′, polynomialsNumber, polynomialsCall}
-use Rattle.transfer.specs.Tensor.{passed, along, ends, transferNumber, transferred, transferCall}
+use Rattle.transfer.specs.Tensor.{passed, directed, operatorHalf, along, ends, transferNumber, transferred, transferCall}
 use Rattle.aca_lines.specs.Largest.{best, argmax, pivot, counts}
 use Rattle.choices.specs.Argmax.{isMask, argmaxNumber, argmaxCall}
 use Rattle.aca_lines.specs.Lines.{residual, multiplied, norm, cross}
@@ -24,7 +24,7 @@ use Rattle.aca.specs.Runs.{followed, run, report, fits, acaNumber, approximatio
 use Rattle.fixed.specs.Results.{Fixed}
 
 pub fixed : Fixed
-unfolding fromDigits digit sums columnMajor left each those count factorial skip unskip axis place largest axisOrder sorted index case atMost near isReference references entry farReference referenceOf reversed negative axisOf placeOf turnedIndex turned returnedIndex returned tableNumber tableCall lookUpNumber knownOf lookUp T T′ polynomialsNumber polynomialsCall passed along ends transferNumber transferred transferCall size best argmax counts isMask argmaxNumber argmaxCall residual scaled unread rowRead columnRead norm cross grown judged stored accepted tried step squares firstBelow cutoff cutoffNumber cutoffCall after run report laid fits acaNumber approximation acaCall trailingZeros add sub mul div neg lt le ofBits ofFields ofInt odd units round sum digits span climb
+unfolding fromDigits digit sums columnMajor left each those count factorial skip unskip axis place largest axisOrder sorted index case atMost near isReference references entry farReference referenceOf reversed negative axisOf placeOf turnedIndex turned returnedIndex returned tableNumber tableCall lookUpNumber knownOf lookUp T T′ polynomialsNumber polynomialsCall passed directed operatorHalf along ends transferNumber transferred transferCall size best argmax pivot counts isMask argmaxNumber argmaxCall residual multiplied unread rowRead columnRead norm cross grown weighed judged stored accepted tried step squares firstBelow cutoff cutoffNumber cutoffCall followed run report laid fits acaNumber approximation acaCall trailingZeros add sub mul div neg lt le ofBits ofFields ofInt odd units round sum digits span climb
 fixed =
     record {
       vector-158 = refl;

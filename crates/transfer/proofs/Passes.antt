@@ -1,80 +1,141 @@
--- A pass fills its result row by row, and the passes alternate two buffers. Assumes nothing.
+-- A pass fills its result a few rows at a time, and the passes alternate two buffers. Assumes nothing.
 use mathlib.Core.Path.{_≡_, refl, sym, ap, _∙_}
+use mathlib.Core.Bool.{Bool, true, false}
 use mathlib.Core.List.{List}
-use Prim.Native.Nat.{ℕ, zero, suc, _+_, _-_, _*_, _^_, _<_, _≤_}
-use native.Mathlib.Nat.{mul-add, add-mul, mul-one, one-mul, zero-mul, mul-comm}
+use Prim.Native.Nat.{ℕ, zero, suc, _+_, _-_, _*_, _/_, _%_, _^_, _<_, _≤_, min}
+use native.Mathlib.Nat.{add-mul, one-mul, zero-mul, mul-comm, mul-assoc, mul-le-mul, mod-lt}
 use native.Mathlib.Omega.{arith}
+use lib.Arith.{digits-lt}
 use lib.Ieee.{Float, nan}
-use lib.ListN.{length, getD, take, drop, length-drop}
-use lib.Seq.{take-all}
-use Rattle.common.specs.Floats.{dotOf}
-use Rattle.common.specs.Lists.{stretch}
+use lib.ListN.{length, getD, take, drop}
+use borrow.Rule.Slice.PartMut.{putMid}
+use Rattle.common.specs.Floats.{times, inner, spaced}
+use Rattle.common.specs.Lists.{tabulate, stores, stretch}
 use Rattle.common.specs.Refusals.{Shape}
-use Rattle.common.specs.Matrices.{cell, columnMajor}
-use Rattle.common.proofs.Fill.{fill-on, fill-all, listed}
-use Rattle.common.proofs.Matrices.{column-fits, cell-at}
+use Rattle.common.specs.Matrices.{cell, matrix, columnMajor}
+use Rattle.common.proofs.Fill.{getD-tabulate, tabulate-cong, part-read, stretch-part, fill-on, fill-all, listed}
+use Rattle.common.proofs.Matrices.{some-rows, cell-on, column-cong, columns-filled}
 use Rattle.common.proofs.Limits.{power-rows}
-use Rattle.transfer.specs.Tensor.{passed, ends}
-
--- the start of the next column of p entries
-pub next-start : (p c : ℕ) → p * (c + 1) ≡ p * c + p
-next-start p c = rw (mul-add, mul-one)
-
--- a column of p entries lies in a matrix of so many columns
-pub start-fits : (p width c : ℕ) → c < width → p * c + p ≤ width * p
-start-fits p width c l = rw (mul-comm p c) (column-fits c width p (c * p) l refl)
-
-pub in-column : (p width c s : ℕ) → c < width → s < p → p * c + 1 * s < width * p
-in-column p width c s l h = let room = start-fits p width c l in rw one-mul (omega arith)
-
--- ROWS
-
-module _ (p width : ℕ) (values operator : List Float) (dr ds : ℕ) where
-  abbrev entry : ℕ → ℕ → Float
-  entry c r = dotOf p values (p * c) 1 operator (dr * r) ds
-
-  pub row-filled : (l now : List Float) (r at start : ℕ) → start ≡ dr * r → at ≡ r * width → at + width ≤ length l →
-      now ≡ stretch 0 at (cell width entry) l →
-      stretch at width (λ c. dotOf p values (p * c) 1 operator start ds) now ≡ stretch 0 (at + width) (cell width entry) l
-  row-filled l now r at start hs e fits made =
-      rw (made, hs) (fill-on at width (cell width entry) _ l (λ c h. sym (rw e (cell-at width entry c r h))) fits)
-
-  pub rows-all : (l : List Float) (at : ℕ) → length l ≡ p * width → at ≡ p * width → stretch 0 at (cell width entry) l ≡ passed p width values operator dr ds
-  unfolding passed columnMajor
-  rows-all l at h e = rw e (fill-all (p * width) (cell width entry) l h)
+use Rattle.common.proofs.Rows.{row-place, rows-more}
+use Rattle.common.proofs.Stores.{length-stores}
+use Rattle.common.proofs.Sums.{sums-more, sums-cong}
+use Rattle.transfer.specs.Tensor.{passed, directed, operatorHalf, along, ends}
+use Rattle.transfer.specs.Working.{Laid, added, summed}
 
 -- THE BLOCK of the operators: the lower starts at 0, and the upper past p columns of p entries
 
--- the part of a list from a place on
-pub rest : (l : List Float) (a : ℕ) → take (length l - a) (drop a l) ≡ drop a l
-rest l a = take-all (length l - a) (drop a l) (let e : length (drop a l) ≡ length l - a = length-drop a l in omega arith)
-
-pub block-start : (side q : ℕ) → side < 2 → side * q ≤ q
+block-start : (side q : ℕ) → side < 2 → side * q ≤ q
 block-start zero q h = let e : 0 * q ≡ 0 = zero-mul q in omega arith
 block-start (suc zero) q h = let e : 1 * q ≡ q = one-mul q in omega arith
 block-start (suc (suc side)) q h = absurd (omega arith)
 
--- entry (r, s), and entry (s, r), lie in the block
 module _ (p side : ℕ) (l : List Float) (two : side < 2) (e : length l ≡ (p + p) * p) where
-  pub start-most : side * (p * p) ≤ p * p
-  start-most = block-start side (p * p) two
+  pub block-fits : side * (p * p) + p * p ≤ length l
+  block-fits = let h = block-start side (p * p) two in let both : (p + p) * p ≡ p * p + p * p = add-mul p p p in omega arith
 
-  pub start-in : side * (p * p) ≤ length l
-  start-in = let h = start-most in let both : (p + p) * p ≡ p * p + p * p = add-mul p p p in omega arith
+  -- its entries, in the part that is handed on
+  pub block-entry : (end r s : ℕ) → end ≡ side * (p * p) + p * p → r < p → s < p →
+      matrix p (take (end - side * (p * p)) (drop (side * (p * p)) l)) r s ≡ matrix p l r (side * p + s)
+  block-entry end r s h b b' =
+      let place : side * (p * p) + (s * p + r) ≡ (side * p + s) * p + r = rw (add-mul, mul-assoc) (omega arith) in
+      part-read (side * (p * p)) end (p * p) l (s * p + r) nan h (digits-lt b' b) ∙ ap (λ (k : ℕ). getD l k nan) place
 
-  block-length : p * p ≤ length (take (length l - side * (p * p)) (drop (side * (p * p)) l))
-  block-length =
-      let long : length (take (length l - side * (p * p)) (drop (side * (p * p)) l)) ≡ length l - side * (p * p) = ap length
-      (rest l (side * (p * p))) ∙ length-drop (side * (p * p)) l in
-      let h = start-most in
-      let both : (p + p) * p ≡ p * p + p * p = add-mul p p p in
-      omega arith
+-- A PASS takes a few rows of the operator at a time
 
-  pub in-block : (r s : ℕ) → r < p → s < p → 1 * r + p * s < length (take (length l - side * (p * p)) (drop (side * (p * p)) l))
-  in-block r s h h' = let room = start-fits p p s h' in let long = block-length in let one : 1 * r ≡ r = one-mul r in omega arith
+-- row r of the operator, where it stands: a column of the block if that is transposed, else a row
+module _ (p r : ℕ) (l : List Float) (transpose : Bool) where
+  pub row-transposed : transpose ≡ true → (s : ℕ) → spaced l (r * p) 1 s ≡ directed transpose (matrix p l) r s
+  unfolding directed
+  row-transposed e s = rw (e, one-mul s)
 
-  pub in-transposed : (r s : ℕ) → r < p → s < p → p * r + 1 * s < length (take (length l - side * (p * p)) (drop (side * (p * p)) l))
-  in-transposed r s h h' = let room = in-column p p r s h h' in let long = block-length in omega arith
+  pub row-standing : transpose ≡ false → (s : ℕ) → spaced l r p s ≡ directed transpose (matrix p l) r s
+  unfolding directed
+  row-standing e s = rw (e, row-place p r s)
+
+-- a further row is laid
+pub lay-more : (p : ℕ) (operator : ℕ → ℕ → Float) (first k : ℕ) (now after : List Float) → p ≤ 16 → k < 4 → Laid p operator first k now →
+    after ≡ stores (λ s. k + 4 * s) (operator (first + k)) p now → Laid p operator first (k + 1) after
+lay-more p operator first k now after most lane h e =
+    let room : p * 4 ≤ length now = omega (arith, h .long) in
+    record {
+      long = ap length e ∙ length-stores (λ s. k + 4 * s) (operator (first + k)) p now ∙ h .long;
+      entries = λ i s b b'. rw e (rows-more 4 p (λ i s. operator (first + i) s) now nan k (operator (first + k)) lane room (h .entries) (λ _ _. refl) i s b b');
+    }
+
+-- a further term is added to each sum
+pub sum-more : (values strip before : List Float) (from s at : ℕ) → at ≡ s * 4 → before ≡ tabulate 4 (summed s values from strip) →
+    tabulate 4 (added (getD values (from + s) nan) strip at before) ≡ tabulate 4 (summed (s + 1) values from strip)
+sum-more values strip before from s at e h =
+    tabulate-cong 4 (added (getD values (from + s) nan) strip at before) (summed (s + 1) values from strip)
+    (λ k b. let sum : getD before k nan ≡ summed s values from strip k = rw h (getD-tabulate 4 (summed s values from strip) k nan b) in
+    rw e (sums-more (λ n. times (getD values (from + n) nan) (matrix 4 strip k n)) s (getD before k nan) sum))
+
+-- a column's sum, where it is read
+pub column-sum : (p : ℕ) (values strip sums : List Float) (from c k : ℕ) → k < 4 → from ≡ c * p → sums ≡ tabulate 4 (summed p values from strip) →
+    spaced sums 0 1 k ≡ summed p values (c * p) strip k
+column-sum p values strip sums from c k b e h =
+    let place : 0 + 1 * k ≡ k = omega arith in
+    rw (place, h, ← e) (getD-tabulate 4 (summed p values from strip) k nan b)
+
+-- at most four rows of those that are left, and their room
+pub few-rows : (p r n : ℕ) → r < p → n ≡ min 4 (p - r) → (n ≤ 4) × (r + n ≤ p) × (0 < n)
+few-rows p r n l e = (omega arith, omega arith, omega arith)
+
+pub rows-fit : (p width r n at : ℕ) → at ≡ r * width → r + n ≤ p → at + n * width ≤ p * width
+rows-fit p width r n at e h =
+    let room = mul-le-mul {n₁ = r + n} {m₁ = width} {n₂ = p} {m₂ = width} h (omega arith) in
+    let both : (r + n) * width ≡ r * width + n * width = add-mul r n width in
+    omega arith
+
+module _ (p width : ℕ) (values operator : ℕ → ℕ → Float) where
+  abbrev output : ℕ → ℕ → Float
+  output = λ c r. inner p (λ s. values s c) (operator r)
+
+  -- the rows that a strip gives go on where the last ended
+  pub strip-filled : (l now strip part : List Float) (r rows at end : ℕ) → at ≡ r * width → end ≡ at + rows * width → end ≤ length l →
+      Laid p operator r rows strip → part ≡ columnMajor width rows (λ c k. inner p (λ s. values s c) (matrix 4 strip k)) →
+      length now ≡ length l → now ≡ stretch 0 at (cell width output) l →
+      putMid at (end - at) now part ≡ stretch 0 end (cell width output) l
+  unfolding columnMajor
+  strip-filled l now strip part r rows at end e e' fits laid made long before =
+      let rows-on : ℕ → ℕ → Float = λ c k. output c (r + k) in
+      let same : (c k : ℕ) → c < width → k < rows → inner p (λ s. values s c) (matrix 4 strip k) ≡ rows-on c k =
+      λ c k _ b. sums-cong p _ _ (λ s b'. ap (times (values s c)) (laid .entries k s b b')) in
+      let filled : part ≡ tabulate (rows * width) (cell width rows-on) = made ∙ column-cong width _ rows rows-on same in
+      let on : (i : ℕ) → i < rows * width → cell width rows-on i ≡ cell width output (at + i) =
+      λ i b. sym (rw e (cell-on width output r i (some-rows rows width i b))) in
+      rw e' (stretch-part at (cell width rows-on) now (rows * width) part (omega arith) filled
+      ∙ ap (stretch at (rows * width) (cell width rows-on)) before
+      ∙ fill-on at (rows * width) (cell width output) (cell width rows-on) l on (omega arith))
+
+  -- all rows are filled
+  pub rows-all : (l : List Float) (at : ℕ) → length l ≡ p * width → at ≡ p * width → stretch 0 at (cell width output) l ≡ passed p width values operator
+  unfolding passed
+  rows-all l at h e = rw e (columns-filled width output p l h)
+
+  -- and depend on the operator's entries alone
+  pub passed-cong : (other : ℕ → ℕ → Float) → ((r s : ℕ) → r < p → s < p → operator r s ≡ other r s) → passed p width values operator ≡ passed p width values other
+  unfolding passed
+  passed-cong other same =
+      column-cong width output p (λ c r. inner p (λ s. values s c) (other r))
+      (λ c r _ b. sums-cong p _ _ (λ s b'. ap (times (values s c)) (same r s b b')))
+
+pub directed-cong : (transpose : Bool) (o o' : ℕ → ℕ → Float) (p : ℕ) → ((r s : ℕ) → r < p → s < p → o r s ≡ o' r s) →
+    (r s : ℕ) → r < p → s < p → directed transpose o r s ≡ directed transpose o' r s
+unfolding directed
+directed-cong true o o' p same r s b b' = same s r b' b
+directed-cong false o o' p same r s b b' = same r s b b'
+
+-- the pass along an axis, over the part of the operators that is handed on
+pub along-block : (p width child axis side end : ℕ) (transpose : Bool) (operators values : List Float) → side ≡ child / 2 ^ axis % 2 →
+    end ≡ side * (p * p) + p * p → length operators ≡ (p + p) * p →
+    passed p width (matrix p values) (directed transpose (matrix p (take (end - side * (p * p)) (drop (side * (p * p)) operators)))) ≡
+    along p width child transpose operators axis values
+unfolding along operatorHalf
+along-block p width child axis side end transpose operators values e e' long =
+    let two : side < 2 = rw e (mod-lt (child / 2 ^ axis) (omega arith)) in
+    passed-cong p width (matrix p values) _ _
+    (directed-cong transpose _ _ p (λ r s b b'. block-entry p side operators two long end r s e' b b' ∙ ap (λ (n : ℕ). matrix p operators r (n * p + s)) e))
 
 -- THE BUFFERS after the passes of one, two and three axes, each of width w
 

@@ -4,19 +4,28 @@ use mathlib.Core.List.{List}
 use Prim.Native.Nat.{ℕ, zero, suc, _+_, _-_, _*_, _/_, _%_, _^_}
 use lib.Dec.{ltb, eqb}
 use lib.Ieee.{Float}
-use lib.ListN.{length, drop}
-use Rattle.common.specs.Floats.{dotOf}
-use Rattle.common.specs.Matrices.{columnMajor}
+use lib.ListN.{length}
+use Rattle.common.specs.Floats.{inner}
+use Rattle.common.specs.Matrices.{matrix, columnMajor}
 use Rattle.common.specs.Refusals.{noDimension, noOrder, noCase, wrongLength, unless, isDimension, isOrder, left}
 
--- One pass. Output place c + width * r is the sum over s of the values at s + p * c times the operator's entry (r, s), which stands at dr * r + ds * s.
-unfoldable pub passed : (p width : ℕ) → (values operator : List Float) → (dr ds : ℕ) → List Float
-passed p width values operator dr ds = columnMajor width p (λ c r. dotOf p values (p * c) 1 operator (dr * r) ds)
+-- One pass reads the data as p rows and so many columns. Output place c + width * r is the sum over s of data (s, c) times operator (r, s).
+unfoldable pub passed : (p width : ℕ) → (values operator : ℕ → ℕ → Float) → List Float
+passed p width values operator = columnMajor width p (λ c r. inner p (λ s. values s c) (operator r))
 
--- The pass along an axis: the lower block of the operators where bit `axis` of the child is 0, else the upper; entry (r,s) for M2M, (s,r) for L2L.
+-- operator (r, s) for M2M, (s, r) for L2L
+unfoldable pub directed : (transpose : Bool) → (operator : ℕ → ℕ → Float) → (r s : ℕ) → Float
+directed transpose operator r s = cond transpose (operator s r) (operator r s)
+
+-- The operators' lower half is their first p columns, and the upper half the next p. Along an axis it is the lower one where bit
+-- `axis` of the child is 0, else the upper.
+unfoldable pub operatorHalf : (p child axis : ℕ) → (operators : List Float) → (r s : ℕ) → Float
+operatorHalf p child axis operators r s = matrix p operators r (child / 2 ^ axis % 2 * p + s)
+
+-- the pass along an axis
 unfoldable pub along : (p width child : ℕ) → (transpose : Bool) → (operators : List Float) → (axis : ℕ) → (values : List Float) → List Float
 along p width child transpose operators axis values =
-    passed p width values (drop (child / 2 ^ axis % 2 * (p * p)) operators) (cond transpose p 1) (cond transpose 1 p)
+    passed p width (matrix p values) (directed transpose (operatorHalf p child axis operators))
 
 -- What two buffers hold once the passes of the axes below n are done, the highest first, each from one buffer to the other:
 -- the one that the first pass reads, and the one that it writes.
@@ -33,11 +42,13 @@ transferNumber D p c i o f s =
     (unless (ltb c (2 ^ D)) noCase
     (unless (eqb i (p ^ D) && (eqb o ((p + p) * p) && (eqb f (p ^ D) && eqb s (p ^ D)))) wrongLength 0)))
 
--- the passes start from the input in the first buffer, as p rows and p ^ (D - 1) columns; the result is in the first for D = 2, and in the second otherwise
+-- The passes start from the input in the first buffer, as p rows and p ^ (D - 1) columns. The result is in the first for D = 2, and in the
+-- second otherwise.
 unfoldable pub transferred : (D p child : ℕ) → (transpose : Bool) → (input operators second : List Float) → List Float × List Float
 transferred D p c transpose input operators second = ends (along p (p ^ (D - 1)) c transpose operators) D input second
 
-unfoldable pub transferCall : (D p child : ℕ) → (transpose : Bool) → (input operators first second : List Float) → ℕ × List Float × List Float
+unfoldable pub transferCall : (D p child : ℕ) → (transpose : Bool) → (input operators first second : List Float) →
+    ℕ × List Float × List Float
 transferCall D p c transpose i o f s = (
   transferNumber D p c (length i) (length o) (length f) (length s),
   left (transferNumber D p c (length i) (length o) (length f) (length s)) (transferred D p c transpose i o s .0) f,

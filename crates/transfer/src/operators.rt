@@ -23,7 +23,8 @@ fn child_node(order: usize, nodes: &[f64], c: usize) -> f64
 // The sums of a column: term k is the nodes' T k times the child's, which the recurrence carries along.
 fn sum_column(order: usize, polynomials: &[f64], x: f64, at: usize, operators: &mut [f64])
     requires { ⌜ (length (now polynomials) ≡ order * order) × (at + order ≤ length (now operators)) ⌝ }
-    ensures { λ _. ⌜ now (operators .exit) ≡ stretch at order (partOf order (now (polynomials .entry)) x order) (now (operators .entry)) ⌝ }
+    ensures { λ _. ⌜ now (operators .exit) ≡
+        stretch at order (partOf order (now (polynomials .entry)) x order) (now (operators .entry)) ⌝ }
 {
     common::fill_with(0.0, order, at, operators);
     let mut t = 1.0;
@@ -43,7 +44,8 @@ fn sum_column(order: usize, polynomials: &[f64], x: f64, at: usize, operators: &
 // Each row of a column times a factor, less an offset.
 fn scale_column(rows: usize, factor: f64, offset: f64, at: usize, operators: &mut [f64])
     requires { ⌜ at + rows ≤ length (now operators) ⌝ }
-    ensures { λ _. ⌜ now (operators .exit) ≡ stretch at rows (λ i. minus (times (getD (now (operators .entry)) (at + i) nan) factor) offset) (now (operators .entry)) ⌝ }
+    ensures { λ _. ⌜ now (operators .exit) ≡
+        stretch at rows (λ i. minus (times (getD (now (operators .entry)) (at + i) nan) factor) offset) (now (operators .entry)) ⌝ }
 {
     let mut i = 0;
     while i < rows {
@@ -53,8 +55,10 @@ fn scale_column(rows: usize, factor: f64, offset: f64, at: usize, operators: &mu
 }
 
 fn fill_operators(order: usize, nodes: &[f64], polynomials: &[f64], operators: &mut [f64])
-    requires { ⌜ (order ≤ 16) × (length (now nodes) ≡ order) × (length (now polynomials) ≡ order * order) × (length (now operators) ≡ (order + order) * order) ⌝ }
-    ensures { λ _. ⌜ now (operators .exit) ≡ columnMajor order (order + order) (operator order (now (nodes .entry)) (now (polynomials .entry))) ⌝ }
+    requires { ⌜ (order ≤ 16) × (length (now nodes) ≡ order) × (length (now polynomials) ≡ order * order) ×
+        (length (now operators) ≡ (order + order) * order) ⌝ }
+    ensures { λ _. ⌜ now (operators .exit) ≡
+        columnMajor order (order + order) (operator order (now (nodes .entry)) (now (polynomials .entry))) ⌝ }
 {
     let factor = 2.0 / common::float_of(order);
     let offset = 1.0 / common::float_of(order);
@@ -72,9 +76,9 @@ fn fill_operators(order: usize, nodes: &[f64], polynomials: &[f64], operators: &
 fn operators_number(order: usize, nodes: usize, polynomials: usize, operators: usize) -> u8
     ensures { λ r. ⌜ r ≡ operatorsNumber order nodes polynomials operators ⌝ }
 {
-    let refused = common::order_number(order);
-    if refused != 0 {
-        return refused;
+    let wrong = common::order_number(order);
+    if wrong != 0 {
+        return wrong;
     }
     if nodes != order {
         return common::WRONG_LENGTH;
@@ -95,7 +99,8 @@ pub fn get_m2m_transfer_operators(
     node_polynomials: &[f64],
     operators: &mut [f64],
 ) -> u8
-    ensures { λ r. ⌜ (r, now (operators .exit)) ≡ operatorsCall order (now (nodes .entry)) (now («node_polynomials» .entry)) (now (operators .entry)) ⌝ }
+    ensures { λ r. ⌜ (r, now (operators .exit)) ≡
+        operatorsCall order (now (nodes .entry)) (now («node_polynomials» .entry)) (now (operators .entry)) ⌝ }
 {
     let refused = operators_number(order, nodes.len(), node_polynomials.len(), operators.len());
     if refused != 0 {

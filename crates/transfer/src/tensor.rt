@@ -2,55 +2,137 @@
 ghost use mathlib.Core.Path.{_≡_};
 ghost use Prim.Native.Nat.{ℕ, _+_, _*_, _-_, _^_, _/_, _%_, _<_, _≤_};
 ghost use lib.ListN.{length};
-ghost use Rattle.common.specs.Floats.{dotOf};
-ghost use Rattle.common.specs.Lists.{stretch};
+ghost use Rattle.common.specs.Floats.{zero₆₄, spaced};
+ghost use Rattle.common.specs.Lists.{tabulate, stores};
+ghost use Rattle.common.specs.Matrices.{matrix, columnMajor};
 ghost use Rattle.common.specs.Refusals.{Shape};
-ghost use Rattle.transfer.specs.Tensor.{passed, along, ends, transferNumber, transferCall};
+ghost use Rattle.transfer.specs.Tensor.{directed, passed, along, ends, transferNumber, transferCall};
+ghost use Rattle.transfer.specs.Working.{Spaced, Laid, added, summed};
 
-// Row r of a pass's result, at place `at`: each column of the values times row r of the operator, whose entries are `step` apart from `start` on.
-fn pass_row(
+// How many rows of the operator a pass takes at a time.
+const LANES: usize = 4;
+
+// A row of the strip or a column of the result: entries that stand `step` apart, stored `gap` apart.
+fn copy_spaced(
+    count: usize,
+    source: &[f64],
+    from: usize,
+    step: usize,
+    at: usize,
+    gap: usize,
+    out: &mut [f64],
+)
+    requires { ⌜ Spaced count from step (length (now source)) × Spaced count at gap (length (now out)) ⌝ }
+    ensures { λ _. ⌜ now (out .exit) ≡ stores (λ k. at + gap * k) (spaced (now (source .entry)) from step) count (now (out .entry)) ⌝ }
+{
+    let mut k = 0;
+    while k < count {
+        out[at + gap * k] = source[from + step * k];
+        k += 1;
+    }
+}
+
+// Row r of the operator, as it stands or transposed, in one lane of the strip.
+fn lay_row(order: usize, block: &[f64], transpose: bool, r: usize, lane: usize, strip: &mut [f64])
+    requires { ⌜ (order ≤ 16) × (r < order) × (lane < 4) × (length (now block) ≡ order * order) × (length (now strip) ≡ 64) ⌝ }
+    ensures { λ _. ⌜ now (strip .exit) ≡
+        stores (λ s. lane + 4 * s) (directed transpose (matrix order (now (block .entry))) r) order (now (strip .entry)) ⌝ }
+{
+    if transpose {
+        copy_spaced(order, block, r * order, 1, lane, LANES, strip);
+    } else {
+        copy_spaced(order, block, r, order, lane, LANES, strip);
+    }
+}
+
+// Some rows of the operator, from row `first` on, side by side.
+fn lay_strip(
+    order: usize,
+    block: &[f64],
+    transpose: bool,
+    first: usize,
+    rows: usize,
+    strip: &mut [f64],
+)
+    requires { ⌜ (order ≤ 16) × (first + rows ≤ order) × (rows ≤ 4) × (length (now block) ≡ order * order) × (length (now strip) ≡ 64) ⌝ }
+    ensures { λ _. ⌜ Laid order (directed transpose (matrix order (now (block .entry)))) first rows (now (strip .exit)) ⌝ }
+{
+    let mut k = 0;
+    while k < rows {
+        lay_row(order, block, transpose, first + k, k, strip);
+        k += 1;
+    }
+}
+
+// Adds one entry of the values, times its column of the strip, to the sums.
+fn add_column(value: f64, strip: &[f64], at: usize, sums: &mut [f64])
+    requires { ⌜ (at + 4 ≤ length (now strip)) × (length (now sums) ≡ 4) ⌝ }
+    ensures { λ _. ⌜ now (sums .exit) ≡ tabulate 4 (added value (now (strip .entry)) at (now (sums .entry))) ⌝ }
+{
+    let mut k = 0;
+    while k < LANES {
+        sums[k] = sums[k] + value * strip[at + k];
+        k += 1;
+    }
+}
+
+// The sums of one column of the values with the strip's rows.
+fn sum_strip(order: usize, values: &[f64], from: usize, strip: &[f64], sums: &mut [f64])
+    requires { ⌜ (order ≤ 16) × (from + order ≤ length (now values)) × (length (now strip) ≡ 64) ×
+        (now sums ≡ tabulate 4 (λ k. zero₆₄)) ⌝ }
+    ensures { λ _. ⌜ now (sums .exit) ≡ tabulate 4 (summed order (now (values .entry)) from (now (strip .entry))) ⌝ }
+{
+    let mut at = 0;
+    let mut s = 0;
+    while s < order {
+        add_column(values[from + s], strip, at, sums);
+        at += LANES;
+        s += 1;
+    }
+}
+
+// The rows of a pass's result that the strip's rows give, column by column.
+fn pass_strip(
     order: usize,
     width: usize,
     values: &[f64],
-    operator: &[f64],
-    start: usize,
-    step: usize,
-    at: usize,
+    strip: &[f64],
+    rows: usize,
     out: &mut [f64],
 )
-    requires { ⌜ (length (now values) ≡ width * order) × ((s : ℕ) → s < order → start + step * s < length (now operator)) × (at + width ≤ length (now out)) ⌝ }
-    ensures { λ _. ⌜ now (out .exit) ≡ stretch at width (λ c. dotOf order (now (values .entry)) (order * c) 1 (now (operator .entry)) start step) (now (out .entry)) ⌝ }
+    requires { ⌜ (order ≤ 16) × (rows ≤ 4) × (length (now values) ≡ width * order) × (length (now strip) ≡ 64) ×
+        (length (now out) ≡ rows * width) ⌝ }
+    ensures { λ _. ⌜ now (out .exit) ≡
+        columnMajor width rows (λ c. summed order (now (values .entry)) (c * order) (now (strip .entry))) ⌝ }
 {
     let mut from = 0;
     let mut c = 0;
     while c < width {
-        out[at + c] = common::dot(order, values, from, 1, operator, start, step);
+        let mut sums = [0.0; 4];
+        sum_strip(order, values, from, strip, &mut sums);
+        copy_spaced(rows, &sums, 0, 1, c, width, out);
         from += order;
         c += 1;
     }
 }
 
-// One pass: entry (r, s) of the operator stands at dr * r + ds * s.
-fn pass(
-    order: usize,
-    width: usize,
-    values: &[f64],
-    operator: &[f64],
-    dr: usize,
-    ds: usize,
-    out: &mut [f64],
-)
-    requires { ⌜ (length (now values) ≡ width * order) × (length (now out) ≡ order * width) × ((r s : ℕ) → r < order → s < order → dr * r + ds * s < length (now operator)) × (dr ≤ 16) × (order ≤ 16) ⌝ }
-    ensures { λ _. ⌜ now (out .exit) ≡ passed order width (now (values .entry)) (now (operator .entry)) dr ds ⌝ }
+// One pass: a few rows of the operator at a time, as it stands or transposed.
+fn pass(order: usize, width: usize, values: &[f64], block: &[f64], transpose: bool, out: &mut [f64])
+    requires { ⌜ (order ≤ 16) × (length (now values) ≡ width * order) × (length (now block) ≡ order * order) ×
+        (length (now out) ≡ order * width) ⌝ }
+    ensures { λ _. ⌜ now (out .exit) ≡
+        passed order width (matrix order (now (values .entry))) (directed transpose (matrix order (now (block .entry)))) ⌝ }
 {
-    let mut start = 0;
+    let mut strip = [0.0; 64];
     let mut at = 0;
     let mut r = 0;
     while r < order {
-        pass_row(order, width, values, operator, start, ds, at, out);
-        start += dr;
-        at += width;
-        r += 1;
+        let rows = common::least(LANES, order - r);
+        let end = at + rows * width;
+        lay_strip(order, block, transpose, r, rows, &mut strip);
+        pass_strip(order, width, values, &strip, rows, &mut out[at..end]);
+        at = end;
+        r += rows;
     }
 }
 
@@ -73,16 +155,13 @@ fn transfer_axis(
     values: &[f64],
     out: &mut [f64],
 )
-    requires { ⌜ (order ≤ 16) × (axis ≤ 2) × (length (now operators) ≡ (order + order) * order) × (length (now values) ≡ width * order) × (length (now out) ≡ order * width) ⌝ }
+    requires { ⌜ (order ≤ 16) × (axis ≤ 2) × (length (now operators) ≡ (order + order) * order) × (length (now values) ≡ width * order) ×
+        (length (now out) ≡ order * width) ⌝ }
     ensures { λ _. ⌜ now (out .exit) ≡ along order width child transpose (now (operators .entry)) axis (now (values .entry)) ⌝ }
 {
     let start = side_of(child, axis) * (order * order);
-    let block = &operators[start..];
-    if transpose {
-        pass(order, width, values, block, order, 1, out);
-    } else {
-        pass(order, width, values, block, 1, order, out);
-    }
+    let end = start + order * order;
+    pass(order, width, values, &operators[start..end], transpose, out);
 }
 
 // The passes along all axes, the last first, each from one buffer to the other.
@@ -95,8 +174,11 @@ fn transfer_axes(
     first: &mut [f64],
     second: &mut [f64],
 )
-    requires { ⌜ Shape dimension order × (length (now operators) ≡ (order + order) * order) × (length (now first) ≡ order ^ dimension) × (length (now second) ≡ order ^ dimension) ⌝ }
-    ensures { λ _. ⌜ (now (first .exit), now (second .exit)) ≡ ends (along order (order ^ (dimension - 1)) child transpose (now (operators .entry))) dimension (now (first .entry)) (now (second .entry)) ⌝ }
+    requires { ⌜ Shape dimension order × (length (now operators) ≡ (order + order) * order) × (length (now first) ≡ order ^ dimension) ×
+        (length (now second) ≡ order ^ dimension) ⌝ }
+    ensures { λ _. ⌜ (now (first .exit), now (second .exit)) ≡
+        ends (along order (order ^ (dimension - 1)) child transpose (now (operators .entry))) dimension (now (first .entry))
+        (now (second .entry)) ⌝ }
 {
     let span = common::power(order, dimension - 1);
     let top = dimension - 1;
@@ -124,9 +206,9 @@ fn transfer_number(
 ) -> u8
     ensures { λ r. ⌜ r ≡ transferNumber dimension order child input operators first second ⌝ }
 {
-    let refused = common::shape_number(dimension, order);
-    if refused != 0 {
-        return refused;
+    let shape = common::shape_number(dimension, order);
+    if shape != 0 {
+        return shape;
     }
     if common::power(2, dimension) <= child {
         return common::NO_CASE;
@@ -159,7 +241,9 @@ pub fn apply_cheb_tensor_transfer(
     first: &mut [f64],
     second: &mut [f64],
 ) -> u8
-    ensures { λ r. ⌜ (r, now (first .exit), now (second .exit)) ≡ transferCall dimension order child transpose (now (input .entry)) (now (operators .entry)) (now (first .entry)) (now (second .entry)) ⌝ }
+    ensures { λ r. ⌜ (r, now (first .exit), now (second .exit)) ≡
+        transferCall dimension order child transpose (now (input .entry)) (now (operators .entry)) (now (first .entry))
+        (now (second .entry)) ⌝ }
 {
     let refused = transfer_number(
         dimension,

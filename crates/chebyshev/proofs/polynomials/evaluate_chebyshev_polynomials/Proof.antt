@@ -28,14 +28,14 @@ returns c =
     polynomials-refused (a .order) (a .rows) (a .with-derivatives) (a .points .now) (a .tn .now) (a .dtn .now) _
     (c .before .polynomials-number .ensures) (c .if1 .taken)
 
-fill-polynomials-requires : tie.Need-fill-polynomials-requires
-fill-polynomials-requires c κs = (ok (c .before) .points, ok (c .before) .values)
+fill-both-requires : tie.Need-fill-both-requires
+fill-both-requires c κs =
+    let e = c .before .before .before in
+    let a = e .before .before .before .before .before .args in
+    (ok e .points, ok e .values, ok e .slopes ∙ ap (λ (t : Bool). sizeIf t (a .order * a .rows)) (c .before .before .if2 .taken))
 
-fill-derivatives-requires : tie.Need-fill-derivatives-requires
-fill-derivatives-requires c κs =
-    let a = c .before .before .before .before .before .before .before .before .before .before .before .before .args in
-    let h = ok (c .before .before .before .before .before .before .before) in
-    (h .points, c .before .before .before .before .before .fill-polynomials .ensures, h .slopes ∙ ap (λ (t : Bool). sizeIf t (a .order * a .rows)) (c .before .before .if2 .taken))
+fill-polynomials-requires : tie.Need-fill-polynomials-requires
+fill-polynomials-requires c κs = let e = c .before .before in (ok e .points, ok e .values)
 
 same-length : tie.Need-same-length
 same-length c = search needs
@@ -45,25 +45,23 @@ same-length-2 c = search needs
 
 returns-2 : tie.Need-returns-2
 returns-2 c =
-    let a = c .before .before .before .before .before .before .before .before .before .before .before .before .before .before .before .args in
-    let e = c .before .before .before .before .before .before .before .before .before .before in
+    let e = c .before .before .before .before .before .before .before .before in
+    let a = e .before .before .before .before .before .args in
     polynomials-done (a .order) (a .rows) (a .with-derivatives) (a .points .now) (a .tn .now) (a .dtn .now) _
-    (e .before .polynomials-number .ensures) _ _ (e .if1 .left)
-    (c .before .before .before .before .before .before .before .before .fill-polynomials .ensures)
-    (c .before .before .fill-derivatives .ensures ∙ ap (λ (t : Bool). cond t (atPoints T′ (a .order) (a .rows) (a .points .now)) []) (sym (c .before .before .before .before .before .if2 .taken)))
+    (e .before .polynomials-number .ensures) _ _ (e .if1 .left) (c .before .before .before .before .fill-both .ensures .0)
+    (c .before .before .before .before .fill-both .ensures .1 ∙ ap (λ (t : Bool). cond t (atPoints T′ (a .order) (a .rows) (a .points .now)) []) (sym (c .before .before .before .before .before .before .before .if2 .taken)))
 
 same-length-3 : tie.Need-same-length-3
 same-length-3 c = search needs
 
 returns-3 : tie.Need-returns-3
 returns-3 c =
-    let a = c .before .before .before .before .before .before .before .before .before .before .args in
     let e = c .before .before .before .before .before in
+    let a = e .before .before .before .before .before .args in
     polynomials-done (a .order) (a .rows) (a .with-derivatives) (a .points .now) (a .tn .now) (a .dtn .now) _
-    (e .before .polynomials-number .ensures) _ _ (e .if1 .left)
-    (c .before .before .before .fill-polynomials .ensures)
-    (none (a .dtn .now) (ok e .slopes ∙ ap (λ (t : Bool). sizeIf t (a .order * a .rows)) (c .if2 .left))
-    ∙ ap (λ (t : Bool). cond t (atPoints T′ (a .order) (a .rows) (a .points .now)) []) (sym (c .if2 .left)))
+    (e .before .polynomials-number .ensures) _ _ (e .if1 .left) (c .before .before .fill-polynomials .ensures)
+    (none (a .dtn .now) (ok e .slopes ∙ ap (λ (t : Bool). sizeIf t (a .order * a .rows)) (c .before .before .before .before .if2 .left))
+    ∙ ap (λ (t : Bool). cond t (atPoints T′ (a .order) (a .rows) (a .points .now)) []) (sym (c .before .before .before .before .if2 .left)))
 
 pub evaluate-chebyshev-polynomials-spec : {M : Type 1} → statement M
 evaluate-chebyshev-polynomials-spec =
@@ -71,8 +69,8 @@ evaluate-chebyshev-polynomials-spec =
     (tie.spec
     polynomials-number-requires
     returns
+    fill-both-requires
     fill-polynomials-requires
-    fill-derivatives-requires
     same-length
     same-length-2
     returns-2

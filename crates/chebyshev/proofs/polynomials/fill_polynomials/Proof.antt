@@ -10,7 +10,7 @@ use Rattle.common.specs.Lists.{stretch}
 use Rattle.common.specs.Matrices.{cell}
 use Rattle.chebyshev.specs.Polynomials.{T}
 use Rattle.common.proofs.Matrices.{next-column, column-fits}
-use Rattle.chebyshev.proofs.Columns.{column-filled, columns-all}
+use Rattle.chebyshev.proofs.Columns.{values-filled, columns-all}
 use Rattle.chebyshev.proofs.polynomials.fill_polynomials.Statement.{statement}
 use Rattle.chebyshev.proofs.polynomials.fill_polynomials.Tie as tie
 
@@ -55,7 +55,7 @@ loop-again c =
       omega arith,
       omega (arith, next-column (l .j) (s .args .rows), l .inv .1),
       call .kept .1 .1 .1 .1 .0 ∙ l .inv .2,
-      call .ensures ∙ column-filled (s .args .rows) (s .args .points .now) (s .args .tn .now) (l .tn) (l .j) (l .at) (l .inv .1)
+      call .ensures ∙ values-filled (s .args .rows) (s .args .points .now) (s .args .tn .now) (l .tn) (l .j) (l .at) (l .inv .1)
           (rw (s .pre .1) fits) (l .inv .3),
     )
 

@@ -30,10 +30,10 @@ fits i =
     rw (l .inv .2, s .pre .3) (column-fits (l .c) (s .args .order + s .args .order) (s .args .order) (l .at) (i .loop-test .taken) (l .inv .1))
 
 float-of-requires : tie.Need-float-of-requires Inv-loop μ-loop
-float-of-requires c κs = c .before .before .before .pre .0
+float-of-requires c κs = omega (arith, c .before .before .before .pre .0)
 
 float-of-requires-2 : tie.Need-float-of-requires-2 Inv-loop μ-loop
-float-of-requires-2 c κs = c .before .before .before .before .pre .0
+float-of-requires-2 c κs = omega (arith, c .before .before .before .before .pre .0)
 
 loop-holds : tie.Need-loop-holds Inv-loop μ-loop
 loop-holds c = (omega arith, sym (zero-mul _), refl, refl)

@@ -1,87 +1,61 @@
--- `transfer::tensor::transfer_axis` meets its contract: the block that the child's bit asks for, as it stands or transposed. Assumes nothing.
-use mathlib.Core.Path.{_∙_}
-use Prim.Native.Nat.{_<_}
-use native.Mathlib.Nat.{mod-lt, mul-le-mul}
+-- `transfer::tensor::transfer_axis` meets its contract: the block that the child's bit asks for is handed on. Assumes nothing.
+use mathlib.Core.Path.{refl, _∙_}
+use Prim.Native.Nat.{_+_, _*_, _<_, _≤_}
+use native.Mathlib.Nat.{mod-lt}
 use native.Mathlib.Omega.{arith}
+use lib.ListN.{length}
+use Rattle.transfer.proofs.Passes.{block-fits, along-block}
 use borrow.Author.Needs.{needs}
-use Rattle.transfer.specs.Tensor.{along}
-use Rattle.transfer.proofs.Passes.{rest, start-in, in-block, in-transposed}
 use Rattle.transfer.proofs.tensor.transfer_axis.Statement.{statement}
 use Rattle.transfer.proofs.tensor.transfer_axis.Tie as tie
 
--- the side is 0 or 1
-two : (c : tie.After-side-of) → c .side-of .result < 2
-two c = rw (c .side-of .ensures) (mod-lt _ (omega arith))
+-- the block has its place: the side is 0 or 1
+fits : (c : tie.After-side-of) → let a = c .before .before .before .before .args in c .side-of .result * (a .order * a .order) + a .order * a .order ≤ length (a .operators .now)
+fits c =
+    let s = c .before .before .before .before in
+    let two : c .side-of .result < 2 = rw (c .side-of .ensures) (mod-lt _ (omega arith)) in
+    block-fits (s .args .order) (c .side-of .result) (s .args .operators .now) two (s .pre .2)
 
 side-of-requires : tie.Need-side-of-requires
 side-of-requires c κs = search needs
 
 mul-start : tie.Need-mul-start
-mul-start c =
-    let s = c .before .before .before .before in
-    let a = s .args in
-    omega (arith, mul-le-mul {n₁ = a .order} {m₁ = a .order} {n₂ = 16} {m₂ = 16} (s .pre .0) (s .pre .0))
+mul-start c = search needs
 
 mul-start-2 : tie.Need-mul-start-2
-mul-start-2 c =
-    let s = c .before .before .before .before in
-    let a = s .args in
-    omega (arith, start-in (a .order) (c .side-of .result) (a .operators .now) (two c) (s .pre .2), s .good)
+mul-start-2 c = omega (arith, fits c, c .before .before .before .before .good)
 
-mul-block : tie.Need-mul-block
-mul-block c =
-    let s = c .before .before .before .before in
-    let a = s .args in
-    omega (arith, start-in (a .order) (c .side-of .result) (a .operators .now) (two c) (s .pre .2), s .good)
+mul-end : tie.Need-mul-end
+mul-end c = search needs
 
-sub-block : tie.Need-sub-block
-sub-block c =
-    let s = c .before .before .before .before in
-    let a = s .args in
-    omega (arith, start-in (a .order) (c .side-of .result) (a .operators .now) (two c) (s .pre .2))
+add-end : tie.Need-add-end
+add-end c = omega (arith, fits c, c .before .before .before .before .good)
 
-part-block-start : tie.Need-part-block-start
-part-block-start c =
-    let s = c .before .before .before .before in
-    let a = s .args in
-    start-in (a .order) (c .side-of .result) (a .operators .now) (two c) (s .pre .2)
+mul-pass : tie.Need-mul-pass
+mul-pass c = omega (arith, fits c, c .before .before .before .before .good)
 
-part-block-end : tie.Need-part-block-end
-part-block-end c = search needs
+sub-pass : tie.Need-sub-pass
+sub-pass c = search needs
+
+part-pass-start : tie.Need-part-pass-start
+part-pass-start c = search needs
+
+part-pass-end : tie.Need-part-pass-end
+part-pass-end c = omega (arith, fits c)
 
 pass-requires : tie.Need-pass-requires
-pass-requires c κs =
-    let s = c .before .before .before .before .before .before .before in
-    let a = s .args in
-    let d = c .before .before .before in
-    (s .pre .3, s .pre .4, in-transposed (a .order) (d .side-of .result) (a .operators .now) (two d) (s .pre .2), s .pre .0, s .pre .0)
-
-pass-requires-2 : tie.Need-pass-requires-2
-pass-requires-2 c κs =
-    let s = c .before .before .before .before .before .before .before in
-    let a = s .args in
-    let d = c .before .before .before in
-    (s .pre .3, s .pre .4, in-block (a .order) (d .side-of .result) (a .operators .now) (two d) (s .pre .2), omega arith, s .pre .0)
+pass-requires c κs = search needs
 
 same-length : tie.Need-same-length
 same-length c = search needs
 
 returns : tie.Need-returns
-unfolding along
 returns c =
-    let a = c .before .before .before .before .before .before .before .before .before .before .args in
-    c .before .before .pass .ensures ∙ rw
-    (rest, c .before .before .before .before .before .before .side-of .ensures, c .before .before .before .before .if1 .taken)
-
-same-length-2 : tie.Need-same-length-2
-same-length-2 c = search needs
-
-returns-2 : tie.Need-returns-2
-unfolding along
-returns-2 c =
-    let a = c .before .before .before .before .before .before .before .before .before .before .args in
-    c .before .before .pass2 .ensures ∙ rw
-    (rest, c .before .before .before .before .before .before .side-of .ensures, c .before .before .before .before .if1 .left)
+    let d = c .before .before .before .before .before in
+    let s = d .before .before .before .before in
+    let a = s .args in
+    c .before .before .pass .ensures ∙ along-block (a .order) (a .width) (a .child) (a .axis) (d .side-of .result) _ (a .transpose) (a .operators .now) (a .values .now)
+    (d .side-of .ensures) refl (s .pre .2)
 
 pub transfer-axis-spec : {M : Type 1} → statement M
 transfer-axis-spec =
@@ -90,13 +64,12 @@ transfer-axis-spec =
     side-of-requires
     mul-start
     mul-start-2
-    mul-block
-    sub-block
-    part-block-start
-    part-block-end
+    mul-end
+    add-end
+    mul-pass
+    sub-pass
+    part-pass-start
+    part-pass-end
     pass-requires
-    pass-requires-2
     same-length
-    returns
-    same-length-2
-    returns-2)
+    returns)

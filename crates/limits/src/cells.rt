@@ -43,7 +43,7 @@ fn try_cell(counts: &mut [u64; 14], k: usize) {
     let cell = Cell {
         dimension: dimension_at(k % 6),
         order: order_at(k / 6 % 6),
-        length: length_at(k / 36 % 8),
+        side: length_at(k / 36 % 8),
         rows: rows_at(k / 288 % 6),
     };
     let trial = Trial {
@@ -70,7 +70,7 @@ fn try_lengths(counts: &mut [u64; 14], k: usize) {
     let cell = Cell {
         dimension: odd_at(k % 2),
         order: 3,
-        length: 1.0,
+        side: 1.0,
         rows: 3,
     };
     let trial = Trial {

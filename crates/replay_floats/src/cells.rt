@@ -148,7 +148,7 @@ fn put_coefficients(
     let cell = Cell {
         dimension: case.dimension,
         order: case.order,
-        length,
+        side: length,
         rows: case.rows,
     };
     let refusal = coefficients::get_approximation_coefficients(

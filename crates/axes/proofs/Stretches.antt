@@ -18,19 +18,19 @@ use Rattle.common.proofs.Steps.{Stepping, stepping-more}
 use Rattle.common.proofs.Sums.{sums-cong}
 use Rattle.common.specs.Matrices.{matrix}
 use Rattle.chebyshev.specs.Polynomials.{atPoints}
-use Rattle.axes.specs.Axes.{scaled, coordinate}
+use Rattle.axes.specs.Axes.{coordinateIn, coordinate, onAxes}
 use Rattle.axes.specs.Working.{sumOf}
 
 -- the n entries of a list from place `at` on, as they are lent
 abbrev pub part : (list : List Float) (at n : ℕ) → List Float
 part list at n = take (at + n - at) (drop at list)
 
--- THE POINTS, scaled axis by axis in place
+-- THE POINTS, coordinateIn axis by axis in place
 
 module _ (D P : ℕ) (l : Float) (centre before : List Float) where
-  pub axis-scaled : length before ≡ D * P → (now next : List Float) (axis at : ℕ) → Stepping 0 D P (cell P (coordinate P l centre before)) before now axis at → axis < D →
-      next ≡ stretch at P (λ i. scaled l (getD centre axis nan) (getD now (at + i) nan)) now → Stepping 0 D P (cell P (coordinate P l centre before)) before next (axis + 1) (at + P)
-  axis-scaled whole now next axis at h m e =
+  pub axis-coordinateIn : length before ≡ D * P → (now next : List Float) (axis at : ℕ) → Stepping 0 D P (cell P (coordinate P l centre before)) before now axis at → axis < D →
+      next ≡ stretch at P (λ i. coordinateIn l (getD centre axis nan) (getD now (at + i) nan)) now → Stepping 0 D P (cell P (coordinate P l centre before)) before next (axis + 1) (at + P)
+  axis-coordinateIn whole now next axis at h m e =
       let place : at ≡ axis * P = h .place ∙ zero-add (axis * P) in
       let fits = column-fits axis D P (axis * P) m refl in
       let here : (i : ℕ) → getD now (at + i) nan ≡ getD before (axis * P + i) nan =
@@ -87,12 +87,12 @@ wanted-filled false P columns f l now h e = e
 -- AN AXIS'S BLOCK of columns: node n of axis a has column a * p + n
 
 module _ (t : ℕ → Float → Float) (p P : ℕ) (points : List Float) where
-  abbrev pub onAxes : (i c : ℕ) → Float
-  onAxes i c = t (c % p) (getD points (c / p * P + i) nan)
+  abbrev pub axesAt : (i c : ℕ) → Float
+  axesAt = onAxes t p (matrix P points)
 
   pub axis-block : (axis from : ℕ) → from ≡ axis * P →
-      (j : ℕ) → j < p * P → cell P (λ i n. t n (getD (part points from P) i nan)) j ≡ cell P onAxes (axis * (p * P) + j)
+      (j : ℕ) → j < p * P → cell P (λ i n. t n (getD (part points from P) i nan)) j ≡ cell P axesAt (axis * (p * P) + j)
   axis-block axis from e j b =
       let some = some-rows p P j b in
       let node : j / P < p = div-lt-iff-lt-mul some .1 b in
-      sym (cell-block P onAxes p axis j b ∙ rw (digits-mod axis node, digits-div axis node, part-read from _ P points (j % P) nan refl (mod-lt j some), e))
+      sym (cell-block P axesAt p axis j b ∙ rw (digits-mod axis node, digits-div axis node, part-read from _ P points (j % P) nan refl (mod-lt j some), e))

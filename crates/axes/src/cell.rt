@@ -4,6 +4,6 @@
 pub struct Cell {
     pub dimension: usize,
     pub order: usize,
-    pub length: f64,
+    pub side: f64,
     pub rows: usize,
 }

@@ -3,11 +3,11 @@ ghost use mathlib.Core.Path.{_≡_};
 ghost use Prim.Native.Nat.{_+_, _*_, _≤_};
 ghost use lib.Ieee.{nan};
 ghost use lib.Ieee.Scale.{finite};
-ghost use lib.ListN.{getD, length as size};
+ghost use lib.ListN.{length, getD};
 ghost use Rattle.common.specs.Floats.{over, minus};
 ghost use Rattle.common.specs.Lists.{stretch};
 ghost use Rattle.common.specs.Matrices.{columnMajor};
-ghost use Rattle.axes.specs.Axes.{scaled, allFinite, coordinate};
+ghost use Rattle.axes.specs.Axes.{coordinateIn, allFinite, coordinate};
 
 struct Physical(f64);
 
@@ -39,7 +39,7 @@ pub fn all_finite(list: &[f64]) -> bool
     true
 }
 
-// The one step from physical to reference coordinates; `half` is half the cell's length.
+// The one step from physical to reference coordinates; `half` is half the cell's side.
 fn scale(point: Physical, centre: Physical, half: f64) -> Reference
     ensures { λ r. ⌜ r .0 ≡ over (minus (point .0) (centre .0)) half ⌝ }
 {
@@ -47,11 +47,12 @@ fn scale(point: Physical, centre: Physical, half: f64) -> Reference
 }
 
 // The points' coordinates on one axis, from place `at` on.
-fn scale_axis(rows: usize, length: f64, centre: f64, at: usize, points: &mut [f64])
-    requires { ⌜ at + rows ≤ size (now points) ⌝ }
-    ensures { λ _. ⌜ now (points .exit) ≡ stretch at rows (λ i. scaled length centre (getD (now (points .entry)) (at + i) nan)) (now (points .entry)) ⌝ }
+fn scale_axis(rows: usize, side: f64, centre: f64, at: usize, points: &mut [f64])
+    requires { ⌜ at + rows ≤ length (now points) ⌝ }
+    ensures { λ _. ⌜ now (points .exit) ≡
+        stretch at rows (λ i. coordinateIn side centre (getD (now (points .entry)) (at + i) nan)) (now (points .entry)) ⌝ }
 {
-    let half = length * 0.5;
+    let half = side * 0.5;
     let mut i = 0;
     while i < rows {
         let point = Physical(points[at + i]);
@@ -62,14 +63,15 @@ fn scale_axis(rows: usize, length: f64, centre: f64, at: usize, points: &mut [f6
 }
 
 // All points, in place.
-pub fn scale_points(dimension: usize, rows: usize, length: f64, centre: &[f64], points: &mut [f64])
-    requires { ⌜ (dimension ≤ 3) × (size (now centre) ≡ dimension) × (size (now points) ≡ dimension * rows) ⌝ }
-    ensures { λ _. ⌜ now (points .exit) ≡ columnMajor rows dimension (coordinate rows length (now (centre .entry)) (now (points .entry))) ⌝ }
+pub fn scale_points(dimension: usize, rows: usize, side: f64, centre: &[f64], points: &mut [f64])
+    requires { ⌜ (dimension ≤ 3) × (length (now centre) ≡ dimension) × (length (now points) ≡ dimension * rows) ⌝ }
+    ensures { λ _. ⌜ now (points .exit) ≡
+        columnMajor rows dimension (coordinate rows side (now (centre .entry)) (now (points .entry))) ⌝ }
 {
     let mut axis = 0;
     let mut at = 0;
     while axis < dimension {
-        scale_axis(rows, length, centre[axis], at, points);
+        scale_axis(rows, side, centre[axis], at, points);
         at += rows;
         axis += 1;
     }

@@ -1,15 +1,13 @@
 // S and S' of each axis: the coefficients of a cell with one dimension, column a*p + n for node n of axis a.
 ghost use mathlib.Core.Path.{_≡_};
 ghost use mathlib.Core.Bool.{cond};
-ghost use Prim.Native.Nat.{_+_, _*_, _/_, _%_, _<_, _≤_};
+ghost use Prim.Native.Nat.{_+_, _*_, _<_, _≤_};
 ghost use lib.Ieee.{nan};
-ghost use lib.ListN.{getD, length as size};
-ghost use Rattle.common.specs.Floats.{times, one₆₄};
+ghost use lib.ListN.{length, getD};
 ghost use Rattle.common.specs.Lists.{stretch};
-ghost use Rattle.common.specs.Matrices.{columnMajor, cell as laid};
-ghost use Rattle.common.specs.Refusals.{Shape, sizeIf};
-ghost use Rattle.axes.specs.Axes.{factorOf, slopeOf, S, S′};
-ghost use Rattle.axes.specs.Working.{sumOf};
+ghost use Rattle.common.specs.Matrices.{matrix, columnMajor};
+ghost use Rattle.axes.specs.Axes.{factorOf, slopeOf, S, S′, onAxes, AxesFit};
+ghost use Rattle.axes.specs.Working.{sumOf, sumsOf, atNodes, AxisFit};
 use crate::cell::Cell;
 
 // The sums of one node's column, at place `at`: term k is polynomial k at each point times that at the node.
@@ -22,8 +20,10 @@ fn sum_column(
     at: usize,
     out: &mut [f64],
 )
-    requires { ⌜ (size (now polynomials) ≡ order * rows) × (node < order) × (size (now «node_polynomials») ≡ order * order) × (at + rows ≤ size (now out)) ⌝ }
-    ensures { λ _. ⌜ now (out .exit) ≡ stretch at rows (λ i. sumOf order rows (now (polynomials .entry)) (now («node_polynomials» .entry)) i node) (now (out .entry)) ⌝ }
+    requires { ⌜ (length (now polynomials) ≡ order * rows) × (node < order) × (length (now «node_polynomials») ≡ order * order) ×
+        (at + rows ≤ length (now out)) ⌝ }
+    ensures { λ _. ⌜ now (out .exit) ≡
+        stretch at rows (λ i. sumOf order rows (now (polynomials .entry)) (now («node_polynomials» .entry)) i node) (now (out .entry)) ⌝ }
 {
     common::fill_with(0.0, rows, at, out);
     let mut from = 0;
@@ -46,8 +46,10 @@ fn sum_columns(
     at: usize,
     out: &mut [f64],
 )
-    requires { ⌜ (size (now polynomials) ≡ order * rows) × (size (now «node_polynomials») ≡ order * order) × (at + order * rows ≤ size (now out)) ⌝ }
-    ensures { λ _. ⌜ now (out .exit) ≡ stretch at (order * rows) (laid rows (sumOf order rows (now (polynomials .entry)) (now («node_polynomials» .entry)))) (now (out .entry)) ⌝ }
+    requires { ⌜ (length (now polynomials) ≡ order * rows) × (length (now «node_polynomials») ≡ order * order) ×
+        (at + order * rows ≤ length (now out)) ⌝ }
+    ensures { λ _. ⌜ now (out .exit) ≡
+        stretch at (order * rows) (sumsOf order rows (now (polynomials .entry)) (now («node_polynomials» .entry))) (now (out .entry)) ⌝ }
 {
     let mut node = 0;
     let mut to = at;
@@ -60,8 +62,9 @@ fn sum_columns(
 
 // Sums become S.
 fn finish_factors(order: usize, count: usize, at: usize, factors: &mut [f64])
-    requires { ⌜ (order ≤ 16) × (at + count ≤ size (now factors)) ⌝ }
-    ensures { λ _. ⌜ now (factors .exit) ≡ stretch at count (λ k. factorOf order (getD (now (factors .entry)) (at + k) nan)) (now (factors .entry)) ⌝ }
+    requires { ⌜ (order ≤ 16) × (at + count ≤ length (now factors)) ⌝ }
+    ensures { λ _. ⌜ now (factors .exit) ≡
+        stretch at count (λ k. factorOf order (getD (now (factors .entry)) (at + k) nan)) (now (factors .entry)) ⌝ }
 {
     let nodes = common::float_of(order);
     let mut k = 0;
@@ -72,15 +75,16 @@ fn finish_factors(order: usize, count: usize, at: usize, factors: &mut [f64])
 }
 
 // Sums become S'.
-fn finish_slopes(order: usize, length: f64, count: usize, at: usize, slopes: &mut [f64])
-    requires { ⌜ (order ≤ 16) × (at + count ≤ size (now slopes)) ⌝ }
-    ensures { λ _. ⌜ now (slopes .exit) ≡ stretch at count (λ k. slopeOf order length (getD (now (slopes .entry)) (at + k) nan)) (now (slopes .entry)) ⌝ }
+fn finish_slopes(order: usize, side: f64, count: usize, at: usize, slopes: &mut [f64])
+    requires { ⌜ (order ≤ 16) × (at + count ≤ length (now slopes)) ⌝ }
+    ensures { λ _. ⌜ now (slopes .exit) ≡
+        stretch at count (λ k. slopeOf order side (getD (now (slopes .entry)) (at + k) nan)) (now (slopes .entry)) ⌝ }
 {
     let share = 2.0 / common::float_of(order);
-    let per_length = 2.0 / length;
+    let per_side = 2.0 / side;
     let mut k = 0;
     while k < count {
-        slopes[at + k] = (slopes[at + k] * share) * per_length;
+        slopes[at + k] = (slopes[at + k] * share) * per_side;
         k += 1;
     }
 }
@@ -97,8 +101,14 @@ fn fill_axis(
     factors: &mut [f64],
     slopes: &mut [f64],
 )
-    requires { ⌜ (1 ≤ cell .order) × (cell .order ≤ 16) × (cell .rows ≤ 4096) × (size (now points) ≡ cell .rows) × (size (now «node_polynomials») ≡ cell .order * cell .order) × (size (now tn) ≡ cell .order * cell .rows) × (size (now dtn) ≡ sizeIf «with_gradients» (cell .order * cell .rows)) × (at + cell .order * cell .rows ≤ size (now factors)) × (sizeIf «with_gradients» (at + cell .order * cell .rows) ≤ size (now slopes)) ⌝ }
-    ensures { λ _. ⌜ (now (factors .exit) ≡ stretch at (cell .order * cell .rows) (laid (cell .rows) (λ i n. S (cell .order) (now («node_polynomials» .entry)) n (getD (now (points .entry)) i nan))) (now (factors .entry))) × (now (slopes .exit) ≡ cond «with_gradients» (stretch at (cell .order * cell .rows) (laid (cell .rows) (λ i n. S′ (cell .order) (cell .length) (now («node_polynomials» .entry)) n (getD (now (points .entry)) i nan))) (now (slopes .entry))) (now (slopes .entry))) ⌝ }
+    requires { ⌜ AxisFit (cell .order) (cell .rows) «with_gradients» at (length (now points)) (length (now «node_polynomials»))
+        (length (now tn))
+        (length (now dtn)) (length (now factors)) (length (now slopes)) ⌝ }
+    ensures { λ _. ⌜ (now (factors .exit) ≡ stretch at (cell .order * cell .rows)
+        (atNodes (S (cell .order) (now («node_polynomials» .entry))) (cell .rows) (now (points .entry))) (now (factors .entry))) ×
+        (now (slopes .exit) ≡ cond «with_gradients» (stretch at (cell .order * cell .rows)
+        (atNodes (S′ (cell .order) (cell .side) (now («node_polynomials» .entry))) (cell .rows) (now (points .entry))) (now (slopes .entry)))
+        (now (slopes .entry))) ⌝ }
 {
     let order = cell.order;
     let rows = cell.rows;
@@ -108,7 +118,7 @@ fn fill_axis(
     finish_factors(order, count, at, factors);
     if with_gradients {
         sum_columns(order, rows, dtn, node_polynomials, at, slopes);
-        finish_slopes(order, cell.length, count, at, slopes);
+        finish_slopes(order, cell.side, count, at, slopes);
     }
 }
 
@@ -123,8 +133,14 @@ pub fn fill_axes(
     factors: &mut [f64],
     slopes: &mut [f64],
 )
-    requires { ⌜ Shape (cell .dimension) (cell .order) × (cell .rows ≤ 4096) × (size (now points) ≡ cell .dimension * cell .rows) × (size (now «node_polynomials») ≡ cell .order * cell .order) × (cell .order * cell .rows ≤ size (now values)) × (sizeIf «with_gradients» (cell .order * cell .rows) ≤ size (now gradients)) × (size (now factors) ≡ cell .dimension * cell .order * cell .rows) × (size (now slopes) ≡ sizeIf «with_gradients» (cell .dimension * cell .order * cell .rows)) ⌝ }
-    ensures { λ _. ⌜ (now (factors .exit) ≡ columnMajor (cell .rows) (cell .dimension * cell .order) (λ i c. S (cell .order) (now («node_polynomials» .entry)) (c % cell .order) (getD (now (points .entry)) (c / cell .order * cell .rows + i) nan))) × (now (slopes .exit) ≡ cond «with_gradients» (columnMajor (cell .rows) (cell .dimension * cell .order) (λ i c. S′ (cell .order) (cell .length) (now («node_polynomials» .entry)) (c % cell .order) (getD (now (points .entry)) (c / cell .order * cell .rows + i) nan))) (now (slopes .entry))) ⌝ }
+    requires { ⌜ AxesFit (cell .dimension) (cell .order) (cell .rows) «with_gradients» (length (now points))
+        (length (now «node_polynomials»))
+        (length (now values)) (length (now gradients)) (length (now factors)) (length (now slopes)) ⌝ }
+    ensures { λ _. ⌜ (now (factors .exit) ≡ columnMajor (cell .rows) (cell .dimension * cell .order)
+        (onAxes (S (cell .order) (now («node_polynomials» .entry))) (cell .order) (matrix (cell .rows) (now (points .entry))))) ×
+        (now (slopes .exit) ≡ cond «with_gradients» (columnMajor (cell .rows) (cell .dimension * cell .order)
+        (onAxes (S′ (cell .order) (cell .side) (now («node_polynomials» .entry))) (cell .order) (matrix (cell .rows) (now (points .entry)))))
+        (now (slopes .entry))) ⌝ }
 {
     let dimension = cell.dimension;
     let order = cell.order;
@@ -150,17 +166,5 @@ pub fn fill_axes(
         from = end;
         at += count;
         axis += 1;
-    }
-}
-
-// The first axis's S times 1, as the value columns start.
-pub fn start_values(count: usize, factors: &mut [f64])
-    requires { ⌜ count ≤ size (now factors) ⌝ }
-    ensures { λ _. ⌜ now (factors .exit) ≡ stretch 0 count (λ k. times one₆₄ (getD (now (factors .entry)) k nan)) (now (factors .entry)) ⌝ }
-{
-    let mut k = 0;
-    while k < count {
-        factors[k] = 1.0 * factors[k];
-        k += 1;
     }
 }

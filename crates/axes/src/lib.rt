@@ -7,4 +7,3 @@ pub use cell::Cell;
 pub use coordinates::all_finite;
 pub use coordinates::scale_points;
 pub use factors::fill_axes;
-pub use factors::start_values;

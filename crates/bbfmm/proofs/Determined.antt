@@ -73,10 +73,10 @@ module _ (dimension order : ℕ) (length : Float) (reference : ℕ) (nodes point
 
 -- COEFFICIENTS
 
-module _ (dimension order rows : ℕ) (length : Float) (with : Bool) (centre polynomials : List Float) (lent : coefficients.Memory) (r r' : ℕ × coefficients.Memory) where
-  bbfmm-get-approximation-coefficients-determined : r ≡ coefficients.coefficientsCall dimension order rows length with centre polynomials lent →
-      r' ≡ coefficients.coefficientsCall dimension order rows length with centre polynomials lent → r ≡ r'
-  bbfmm-get-approximation-coefficients-determined = coincide r r' (coefficients.coefficientsCall dimension order rows length with centre polynomials lent)
+module _ (dimension order rows : ℕ) (side : Float) (with : Bool) (centre polynomials : List Float) (lent : coefficients.Memory) (r r' : ℕ × coefficients.Memory) where
+  bbfmm-get-approximation-coefficients-determined : r ≡ coefficients.coefficientsCall dimension order rows side with centre polynomials lent →
+      r' ≡ coefficients.coefficientsCall dimension order rows side with centre polynomials lent → r ≡ r'
+  bbfmm-get-approximation-coefficients-determined = coincide r r' (coefficients.coefficientsCall dimension order rows side with centre polynomials lent)
 
 -- CHOICES AND CROSS APPROXIMATION
 

@@ -23,7 +23,8 @@ pub extern "C" fn bbfmm_evaluate_chebyshev_polynomials(
     tn: &mut [f64],
     dtn: &mut [f64],
 ) -> u8
-    ensures { λ r. ⌜ (r, now (tn .exit), now (dtn .exit)) ≡ polynomialsCall order rows «with_derivatives» (now (points .entry)) (now (tn .entry)) (now (dtn .entry)) ⌝ }
+    ensures { λ r. ⌜ (r, now (tn .exit), now (dtn .exit)) ≡
+        polynomialsCall order rows «with_derivatives» (now (points .entry)) (now (tn .entry)) (now (dtn .entry)) ⌝ }
 {
     evaluate_chebyshev_polynomials(order, rows, points, with_derivatives, tn, dtn)
 }

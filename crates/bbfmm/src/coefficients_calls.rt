@@ -9,7 +9,7 @@ use coefficients::get_approximation_coefficients;
 pub extern "C" fn bbfmm_get_approximation_coefficients(
     dimension: usize,
     order: usize,
-    length: f64,
+    side: f64,
     rows: usize,
     with_gradients: bool,
     centre: &[f64],
@@ -20,12 +20,14 @@ pub extern "C" fn bbfmm_get_approximation_coefficients(
     factors: &mut [f64],
     slopes: &mut [f64],
 ) -> u8
-    ensures { λ r. ⌜ (r, (now (points .exit), now (values .exit), now (gradients .exit), now (factors .exit), now (slopes .exit))) ≡ coefficientsCall dimension order rows length «with_gradients» (now (centre .entry)) (now («node_polynomials» .entry)) (now (points .entry), now (values .entry), now (gradients .entry), now (factors .entry), now (slopes .entry)) ⌝ }
+    ensures { λ r. ⌜ (r, (now (points .exit), now (values .exit), now (gradients .exit), now (factors .exit), now (slopes .exit))) ≡
+        coefficientsCall dimension order rows side «with_gradients» (now (centre .entry)) (now («node_polynomials» .entry))
+        (now (points .entry), now (values .entry), now (gradients .entry), now (factors .entry), now (slopes .entry)) ⌝ }
 {
     let cell = Cell {
         dimension,
         order,
-        length,
+        side,
         rows,
     };
     get_approximation_coefficients(

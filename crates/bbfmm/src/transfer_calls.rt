@@ -13,7 +13,8 @@ pub extern "C" fn bbfmm_get_m2m_transfer_operators(
     node_polynomials: &[f64],
     operators: &mut [f64],
 ) -> u8
-    ensures { λ r. ⌜ (r, now (operators .exit)) ≡ operatorsCall order (now (nodes .entry)) (now («node_polynomials» .entry)) (now (operators .entry)) ⌝ }
+    ensures { λ r. ⌜ (r, now (operators .exit)) ≡
+        operatorsCall order (now (nodes .entry)) (now («node_polynomials» .entry)) (now (operators .entry)) ⌝ }
 {
     get_m2m_transfer_operators(order, nodes, node_polynomials, operators)
 }
@@ -30,7 +31,9 @@ pub extern "C" fn bbfmm_apply_cheb_tensor_transfer(
     first: &mut [f64],
     second: &mut [f64],
 ) -> u8
-    ensures { λ r. ⌜ (r, now (first .exit), now (second .exit)) ≡ transferCall dimension order child transpose (now (input .entry)) (now (operators .entry)) (now (first .entry)) (now (second .entry)) ⌝ }
+    ensures { λ r. ⌜ (r, now (first .exit), now (second .exit)) ≡
+        transferCall dimension order child transpose (now (input .entry)) (now (operators .entry)) (now (first .entry))
+        (now (second .entry)) ⌝ }
 {
     apply_cheb_tensor_transfer(
         dimension,

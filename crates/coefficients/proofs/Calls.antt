@@ -5,67 +5,67 @@ use mathlib.Core.List.{List}
 use Prim.Native.Nat.{ℕ, _*_, _^_, _<_, _≤_}
 use lib.Dec.{leb}
 use lib.Ieee.{Float}
-use lib.ListN.{length}
 use borrow.Author.Tests.{eqb-true, leb-true, le-leb, lt-leb}
-use Rattle.common.specs.Refusals.{sizeIf, isCell, Shape, shapeNumber}
+use Rattle.common.specs.Refusals.{sizeIf, isCell, Shape, mostPoints, shapeNumber}
 use Rattle.common.proofs.Cases.{equal-and}
 use Rattle.common.proofs.Limits.{shape-out, shape-past, call-refused, call-done, passed, shape-passed}
-use Rattle.axes.specs.Axes.{allFinite}
-use Rattle.coefficients.specs.Coefficients.{lengthsFit, coefficientsNumber, Memory, after, coefficientsCall}
-use Rattle.coefficients.specs.Working.{Ready}
+use Rattle.axes.specs.Axes.{allFinite, coordinate}
+use Rattle.coefficients.specs.Coefficients.{lengths, lengthsFit, coefficientsNumber, Memory, leaves, coefficientsCall}
+use Rattle.coefficients.specs.Working.{Admitted}
+use Rattle.coefficients.specs.declared.Lengths.{Lengths}
 
-module _ (D p P : ℕ) (l : Float) (centre points : List Float) (fit : Bool) where
-  pub number-shape : (shapeNumber D p ≡ 0 → ⊥) → shapeNumber D p ≡ coefficientsNumber D p P l centre points fit
+module _ (D p P : ℕ) (side : Float) (centre points : List Float) (fit : Bool) where
+  pub number-shape : (shapeNumber D p ≡ 0 → ⊥) → shapeNumber D p ≡ coefficientsNumber D p P side centre points fit
   unfolding coefficientsNumber
   number-shape h = shape-out D p _ h
 
   module _ (s : Shape D p) where
-    pub number-count : 4096 < P → 3 ≡ coefficientsNumber D p P l centre points fit
+    pub number-count : mostPoints < P → 3 ≡ coefficientsNumber D p P side centre points fit
     unfolding coefficientsNumber
-    number-count h = sym (shape-past D p _ s ∙ rw (lt-leb P 4096 h))
+    number-count h = sym (shape-past D p _ s ∙ rw (lt-leb P mostPoints h))
 
-    module _ (few : P ≤ 4096) where
-      pub number-length : fit ≡ false → 7 ≡ coefficientsNumber D p P l centre points fit
+    module _ (few : P ≤ mostPoints) where
+      pub number-length : fit ≡ false → 7 ≡ coefficientsNumber D p P side centre points fit
       unfolding coefficientsNumber
-      number-length f = sym (shape-past D p _ s ∙ rw (le-leb P 4096 few, f))
+      number-length f = sym (shape-past D p _ s ∙ rw (le-leb P mostPoints few, f))
 
       module _ (f : fit ≡ true) where
-        pub number-cell : isCell l ≡ false → 8 ≡ coefficientsNumber D p P l centre points fit
+        pub number-cell : isCell side ≡ false → 8 ≡ coefficientsNumber D p P side centre points fit
         unfolding coefficientsNumber
-        number-cell c = sym (shape-past D p _ s ∙ rw (le-leb P 4096 few, f, c))
+        number-cell c = sym (shape-past D p _ s ∙ rw (le-leb P mostPoints few, f, c))
 
-        module _ (c : isCell l ≡ true) where
-          pub number-points : allFinite points ≡ false → 9 ≡ coefficientsNumber D p P l centre points fit
+        module _ (c : isCell side ≡ true) where
+          pub number-points : allFinite points ≡ false → 9 ≡ coefficientsNumber D p P side centre points fit
           unfolding coefficientsNumber
-          number-points x = sym (shape-past D p _ s ∙ rw (le-leb P 4096 few, f, c, x))
+          number-points x = sym (shape-past D p _ s ∙ rw (le-leb P mostPoints few, f, c, x))
 
-          pub number-centre : allFinite points ≡ true → allFinite centre ≡ false → 9 ≡ coefficientsNumber D p P l centre points fit
+          pub number-centre : allFinite points ≡ true → allFinite centre ≡ false → 9 ≡ coefficientsNumber D p P side centre points fit
           unfolding coefficientsNumber
-          number-centre x y = sym (shape-past D p _ s ∙ rw (le-leb P 4096 few, f, c, x, y))
+          number-centre x y = sym (shape-past D p _ s ∙ rw (le-leb P mostPoints few, f, c, x, y))
 
-          pub number-none : allFinite points ≡ true → allFinite centre ≡ true → 0 ≡ coefficientsNumber D p P l centre points fit
+          pub number-none : allFinite points ≡ true → allFinite centre ≡ true → 0 ≡ coefficientsNumber D p P side centre points fit
           unfolding coefficientsNumber
-          number-none x y = sym (shape-past D p _ s ∙ rw (le-leb P 4096 few, f, c, x, y))
+          number-none x y = sym (shape-past D p _ s ∙ rw (le-leb P mostPoints few, f, c, x, y))
 
   -- not refused: the shape, the count and the lengths are right
-  pub number-taken : coefficientsNumber D p P l centre points fit ≡ 0 → Shape D p × (P ≤ 4096) × (fit ≡ true)
+  pub number-taken : coefficientsNumber D p P side centre points fit ≡ 0 → Shape D p × (P ≤ mostPoints) × (fit ≡ true)
   unfolding coefficientsNumber
   number-taken z =
       let s = shape-passed D p _ z in
-      let few = passed (leb P 4096) 2 _ (s .1) in
-      (s .0, leb-true P 4096 (few .0), passed fit 6 _ (few .1) .0)
+      let few = passed (leb P mostPoints) 2 _ (s .1) in
+      (s .0, leb-true P mostPoints (few .0), passed fit 6 _ (few .1) .0)
 
-module _ (D p P : ℕ) (with : Bool) (n c t v g f d : ℕ) where
+module _ (D p P : ℕ) (with : Bool) (lent : Lengths) where
   -- the lengths are as stated
-  pub ready : Shape D p → P ≤ 4096 → lengthsFit D p P with n c t v g f d ≡ true → Ready D p P with n c t v g f d
+  pub admitted : Shape D p → P ≤ mostPoints → lengthsFit D p P with lent ≡ true → Admitted D p P with lent
   unfolding lengthsFit
-  ready s few h =
-      let one = equal-and n (D * P) _ h in
-      let two = equal-and c D _ (one .1) in
-      let three = equal-and t (p * p) _ (two .1) in
-      let four = equal-and v (p ^ D * P) _ (three .1) in
-      let five = equal-and g (sizeIf with (D * p ^ D * P)) _ (four .1) in
-      let six = equal-and f (D * p * P) _ (five .1) in
+  admitted s few h =
+      let one = equal-and (lent .points) (D * P) _ h in
+      let two = equal-and (lent .centre) D _ (one .1) in
+      let three = equal-and (lent .polynomials) (p * p) _ (two .1) in
+      let four = equal-and (lent .values) (p ^ D * P) _ (three .1) in
+      let five = equal-and (lent .gradients) (sizeIf with (D * p ^ D * P)) _ (four .1) in
+      let six = equal-and (lent .factors) (D * p * P) _ (five .1) in
       record {
         shape = s;
         few = few;
@@ -80,12 +80,13 @@ module _ (D p P : ℕ) (with : Bool) (n c t v g f d : ℕ) where
 
 -- THE CALL
 
-module _ (D p P : ℕ) (l : Float) (with : Bool) (centre t x v g f d : List Float) (r : ℕ)
-    (e : r ≡ coefficientsNumber D p P l centre x (lengthsFit D p P with (length x) (length centre) (length t) (length v) (length g) (length f) (length d))) where
-  pub coefficients-refused : (r ≡ 0 → ⊥) → (r, (x, v, g, f, d)) ≡ coefficientsCall D p P l with centre t (x, v, g, f, d)
+module _ (D p P : ℕ) (side : Float) (with : Bool) (centre t x v g f d : List Float) (r : ℕ)
+    (e : r ≡ coefficientsNumber D p P side centre x (lengthsFit D p P with (lengths centre t (x, v, g, f, d)))) where
+  pub coefficients-refused : (r ≡ 0 → ⊥) → (r, (x, v, g, f, d)) ≡ coefficientsCall D p P side with centre t (x, v, g, f, d)
   unfolding coefficientsCall
-  coefficients-refused = call-refused r _ (after D p P l with centre t x) (x, v, g, f, d) e
+  coefficients-refused = call-refused r _ (leaves D p P side with t (coordinate P side centre x)) (x, v, g, f, d) e
 
-  pub coefficients-done : (m : Memory) → r ≡ 0 → m ≡ after D p P l with centre t x → (0, m) ≡ coefficientsCall D p P l with centre t (x, v, g, f, d)
+  pub coefficients-done : (m : Memory) → r ≡ 0 → m ≡ leaves D p P side with t (coordinate P side centre x) →
+      (0, m) ≡ coefficientsCall D p P side with centre t (x, v, g, f, d)
   unfolding coefficientsCall
-  coefficients-done m = call-done r _ (after D p P l with centre t x) (x, v, g, f, d) e m
+  coefficients-done m = call-done r _ (leaves D p P side with t (coordinate P side centre x)) (x, v, g, f, d) e m

@@ -2,56 +2,69 @@
 use mathlib.Core.Path.{_≡_}
 use mathlib.Core.Bool.{Bool, cond}
 use mathlib.Core.List.{List}
-use Prim.Native.Nat.{ℕ, _+_, _*_, _/_, _%_, _^_, _<_, _≤_}
-use lib.Dec.{eqb}
+use Prim.Native.Nat.{ℕ, zero, suc, _+_, _-_, _*_, _/_, _%_, _^_, _<_, _≤_}
+use lib.Dec.{eqb, leb}
 use lib.Ieee.{Float, nan}
-use lib.ListN.{getD}
+use lib.ListN.{length, getD}
 use Rattle.common.specs.Digits.{digit}
-use Rattle.common.specs.Refusals.{Shape, sizeIf}
+use Rattle.common.specs.Floats.{times}
+use Rattle.common.specs.Refusals.{Shape, mostPoints, sizeIf}
 use Rattle.coefficients.specs.Coefficients.{others}
+use Rattle.coefficients.specs.declared.Lengths.{Lengths}
 
--- the second axis of a product that starts with axis g, and the third
-abbrev pub secondAxis : (g : ℕ) → ℕ
-secondAxis g = cond (eqb g 0) 1 0
+-- A COLUMN is a product of as many sources as the dimension says, in their order. A source is a buffer and an axis: at a node it gives
+-- the buffer's column of the node's index on that axis.
 
-abbrev pub thirdAxis : (g : ℕ) → ℕ
-thirdAxis g = cond (eqb g 2) 1 2
+-- one of three, by its number
+unfoldable pub three : {A : Type 0} → (first second third : A) → ℕ → A
+three a b c zero = a
+three a b c (suc zero) = b
+three a b c (suc (suc n)) = c
 
--- where the factors' column of an axis begins, for the node with number k
+-- f 0 times f 1, times f 2, .. times f n
+unfoldable pub chain : (n : ℕ) → (ℕ → Float) → Float
+chain zero f = f zero
+chain (suc n) f = times (chain n f) (f (suc n))
+
+-- where the column of an axis begins in a buffer, for the node with number k
 abbrev pub placeOf : (D p P k a : ℕ) → ℕ
 placeOf D p P k a = (a * p + digit p D a k) * P
 
--- how far the column of an axis moves from a node to the next, while the last axis moves alone
-abbrev pub stepOf : (D P a : ℕ) → ℕ
-stepOf D P a = cond (eqb (a + 1) D) P 0
+-- row i of the column of node k
+abbrev pub productOf : (D p P : ℕ) → (axes : ℕ → ℕ) → (buffers : ℕ → List Float) → (i k : ℕ) → Float
+productOf D p P axes buffers i k = chain (D - 1) (λ m. getD (buffers m) (placeOf D p P k (axes m) + i) nan)
 
--- row i of column n of a list in which columns begin at `from` and then each `step` on; and p such columns of P rows fit a length
-abbrev pub strided : (list : List Float) → (from step i n : ℕ) → Float
-strided list from step i n = getD list (from + n * step + i) nan
+-- the axes of a product that starts with axis g: those past the dimension are not read
+abbrev pub secondAxis : (D g : ℕ) → ℕ
+secondAxis D g = cond (leb D 1) 0 (cond (eqb g 0) 1 0)
 
-abbrev pub Within : (p P from step length : ℕ) → Type 0
-Within p P from step length = (step ≤ P) × ((n : ℕ) → n < p → from + n * step + P ≤ length)
+abbrev pub thirdAxis : (D g : ℕ) → ℕ
+thirdAxis D g = cond (leb D 2) 0 (cond (eqb g 2) 1 2)
 
--- row i of the column of node k, whose product starts with axis g: read from the starts, a column a node, and from the factors
-abbrev pub productOf : (D p P g : ℕ) → (starts factors : List Float) → (i k : ℕ) → Float
-productOf D p P g starts factors i k =
-    others g (getD starts (digit p D g k * P + i) nan) D (λ a. getD factors (placeOf D p P k a + i) nan)
+-- row i of the column of node k, whose product starts with axis g of one buffer and goes on with the other axes of another
+abbrev pub startedOf : (D p P g : ℕ) → (starts factors : List Float) → (i k : ℕ) → Float
+startedOf D p P g starts factors i k =
+    others g (getD starts (placeOf D p P k g + i) nan) D (λ a. getD factors (placeOf D p P k a + i) nan)
 
--- row i of the gradient's column c, whose product starts with axis g: read from the slopes and the factors
+-- row i of the gradient's column c, read from the slopes and the factors
 abbrev pub gradientOf : (D p P : ℕ) → (slopes factors : List Float) → (i c : ℕ) → Float
-gradientOf D p P slopes factors i c =
-    let g = c / p ^ D in
-    let k = c % p ^ D in
-    others g (getD slopes (placeOf D p P k g + i) nan) D (λ a. getD factors (placeOf D p P k a + i) nan)
+gradientOf D p P slopes factors i c = startedOf D p P (c / p ^ D) slopes factors i (c % p ^ D)
+
+-- the sources of a product: each axis is one, and each buffer has p columns of P rows an axis
+pub record Sources (D p P : ℕ) (axes : ℕ → ℕ) (buffers : ℕ → List Float) : Type 0 where
+  pub shape : Shape D p
+  pub few : P ≤ mostPoints
+  pub axis : (m : ℕ) → axes m < D
+  pub long : (m : ℕ) → length (buffers m) ≡ D * p * P
 
 -- the call is not refused: a shape, not too many points, and lengths as stated
-pub record Ready (D p P : ℕ) (with : Bool) (n c t v g f d : ℕ) : Type 0 where
+pub record Admitted (D p P : ℕ) (with : Bool) (lent : Lengths) : Type 0 where
   pub shape : Shape D p
-  pub few : P ≤ 4096
-  pub points : n ≡ D * P
-  pub centre : c ≡ D
-  pub polynomials : t ≡ p * p
-  pub values : v ≡ p ^ D * P
-  pub gradients : g ≡ sizeIf with (D * p ^ D * P)
-  pub factors : f ≡ D * p * P
-  pub slopes : d ≡ sizeIf with (D * p * P)
+  pub few : P ≤ mostPoints
+  pub points : lent .points ≡ D * P
+  pub centre : lent .centre ≡ D
+  pub polynomials : lent .polynomials ≡ p * p
+  pub values : lent .values ≡ p ^ D * P
+  pub gradients : lent .gradients ≡ sizeIf with (D * p ^ D * P)
+  pub factors : lent .factors ≡ D * p * P
+  pub slopes : lent .slopes ≡ sizeIf with (D * p * P)

@@ -1,16 +1,15 @@
 // The call for approximation coefficients.
 ghost use mathlib.Core.Path.{_≡_};
-ghost use lib.ListN.{length as size};
-ghost use Rattle.coefficients.specs.Coefficients.{after, coefficientsCall};
-ghost use Rattle.coefficients.specs.Working.{Ready};
+ghost use Rattle.axes.specs.Axes.{coordinate};
+ghost use Rattle.coefficients.specs.Coefficients.{lengths, leaves, coefficientsCall};
+ghost use Rattle.coefficients.specs.Working.{Admitted};
+use crate::Lengths;
 use crate::columns::fill_gradients;
-use crate::columns::fill_values;
-use crate::limits::Lengths;
+use crate::columns::fill_started;
 use crate::limits::coefficients_number;
 use axes::Cell;
 use axes::fill_axes;
 use axes::scale_points;
-use axes::start_values;
 
 fn fill_coefficients(
     cell: Cell,
@@ -23,13 +22,13 @@ fn fill_coefficients(
     factors: &mut [f64],
     slopes: &mut [f64],
 )
-    requires { ⌜ Ready (cell .dimension) (cell .order) (cell .rows) «with_gradients» (size (now points)) (size (now centre)) (size (now «node_polynomials»)) (size (now values)) (size (now gradients)) (size (now factors)) (size (now slopes)) ⌝ }
-    ensures { λ _. ⌜ (now (points .exit), now (values .exit), now (gradients .exit), now (factors .exit), now (slopes .exit)) ≡ after (cell .dimension) (cell .order) (cell .rows) (cell .length) «with_gradients» (now (centre .entry)) (now («node_polynomials» .entry)) (now (points .entry)) ⌝ }
+    requires { ⌜ Admitted (cell .dimension) (cell .order) (cell .rows) «with_gradients»
+        (lengths (now centre) (now «node_polynomials») (now points, now values, now gradients, now factors, now slopes)) ⌝ }
+    ensures { λ _. ⌜ (now (points .exit), now (values .exit), now (gradients .exit), now (factors .exit), now (slopes .exit)) ≡
+        leaves (cell .dimension) (cell .order) (cell .rows) (cell .side) «with_gradients» (now («node_polynomials» .entry))
+        (coordinate (cell .rows) (cell .side) (now (centre .entry)) (now (points .entry))) ⌝ }
 {
-    let dimension = cell.dimension;
-    let order = cell.order;
-    let rows = cell.rows;
-    scale_points(dimension, rows, cell.length, centre, points);
+    scale_points(cell.dimension, cell.rows, cell.side, centre, points);
     fill_axes(
         cell,
         with_gradients,
@@ -41,8 +40,7 @@ fn fill_coefficients(
         slopes,
     );
     fill_gradients(cell, with_gradients, slopes, factors, gradients);
-    start_values(order * rows, factors);
-    fill_values(dimension, order, rows, factors, values);
+    fill_started(cell, 0, factors, factors, values);
 }
 
 // What each node of a cell counts for at each of the points, which become reference coordinates in place: one row a point, one column
@@ -58,7 +56,10 @@ pub fn get_approximation_coefficients(
     factors: &mut [f64],
     slopes: &mut [f64],
 ) -> u8
-    ensures { λ r. ⌜ (r, (now (points .exit), now (values .exit), now (gradients .exit), now (factors .exit), now (slopes .exit))) ≡ coefficientsCall (cell .dimension) (cell .order) (cell .rows) (cell .length) «with_gradients» (now (centre .entry)) (now («node_polynomials» .entry)) (now (points .entry), now (values .entry), now (gradients .entry), now (factors .entry), now (slopes .entry)) ⌝ }
+    ensures { λ r. ⌜ (r, (now (points .exit), now (values .exit), now (gradients .exit), now (factors .exit), now (slopes .exit))) ≡
+        coefficientsCall (cell .dimension) (cell .order) (cell .rows) (cell .side) «with_gradients» (now (centre .entry))
+        (now («node_polynomials» .entry))
+        (now (points .entry), now (values .entry), now (gradients .entry), now (factors .entry), now (slopes .entry)) ⌝ }
 {
     let lent = Lengths {
         points: points.len(),

@@ -1,16 +1,23 @@
 // The columns of the result, each a product of one column an axis, written straight into its own stretch.
 ghost use mathlib.Core.Path.{_≡_};
 ghost use mathlib.Core.Bool.{cond};
-ghost use Prim.Native.Nat.{_+_, _*_, _^_, _<_, _≤_};
+ghost use Prim.Native.Nat.{_+_, _-_, _*_, _^_, _<_, _≤_};
 ghost use lib.Ieee.{nan};
-ghost use lib.ListN.{getD, length as size};
+ghost use lib.ListN.{length, getD};
 ghost use Rattle.common.specs.Digits.{digit};
 ghost use Rattle.common.specs.Floats.{times};
 ghost use Rattle.common.specs.Lists.{tabulate};
 ghost use Rattle.common.specs.Matrices.{columnMajor};
-ghost use Rattle.common.specs.Refusals.{Shape, sizeIf};
-ghost use Rattle.coefficients.specs.Working.{secondAxis, thirdAxis, placeOf, stepOf, strided, Within, productOf, gradientOf};
+ghost use Rattle.common.specs.Refusals.{Shape, mostPoints, sizeIf};
+ghost use Rattle.coefficients.specs.Working.{three, chain, placeOf, productOf, secondAxis, thirdAxis, startedOf, gradientOf, Sources};
 use axes::Cell;
+
+// The axes of a product's sources, in their order; those past the dimension are not read.
+struct Order {
+    first: usize,
+    second: usize,
+    third: usize,
+}
 
 // A node's index on an axis.
 fn index_on(dimension: usize, order: usize, axis: usize, node: usize) -> usize
@@ -27,265 +34,183 @@ fn index_on(dimension: usize, order: usize, axis: usize, node: usize) -> usize
     node / (order * order) % order
 }
 
-// Where the factors' column of a node's index on an axis begins.
-fn place_of(dimension: usize, order: usize, rows: usize, axis: usize, node: usize) -> usize
-    requires { ⌜ Shape dimension order × (rows ≤ 4096) × (axis < dimension) ⌝ }
-    ensures { λ r. ⌜ r ≡ placeOf dimension order rows node axis ⌝ }
+// Where the column of a node's index on an axis begins in a buffer.
+fn place_of(cell: Cell, axis: usize, node: usize) -> usize
+    requires { ⌜ Shape (cell .dimension) (cell .order) × (cell .rows ≤ mostPoints) × (axis < cell .dimension) ⌝ }
+    ensures { λ r. ⌜ r ≡ placeOf (cell .dimension) (cell .order) (cell .rows) node axis ⌝ }
 {
-    (axis * order + index_on(dimension, order, axis, node)) * rows
+    let dimension = cell.dimension;
+    let order = cell.order;
+    (axis * order + index_on(dimension, order, axis, node)) * cell.rows
 }
 
-// The second axis of a product that starts with another.
-fn second_axis(axis: usize) -> usize
-    ensures { λ r. ⌜ r ≡ secondAxis axis ⌝ }
+fn multiply_two(rows: usize, first: &[f64], second: &[f64], column: &mut [f64])
+    requires { ⌜ (length (now first) ≡ rows) × (length (now second) ≡ rows) × (length (now column) ≡ rows) ⌝ }
+    ensures { λ _. ⌜ now (column .exit) ≡
+        tabulate rows (λ i. times (getD (now (first .entry)) i nan) (getD (now (second .entry)) i nan)) ⌝ }
 {
+    let mut i = 0;
+    while i < rows {
+        column[i] = first[i] * second[i];
+        i += 1;
+    }
+}
+
+fn multiply_three(rows: usize, first: &[f64], second: &[f64], third: &[f64], column: &mut [f64])
+    requires { ⌜ (length (now first) ≡ rows) × (length (now second) ≡ rows) × (length (now third) ≡ rows) ×
+        (length (now column) ≡ rows) ⌝ }
+    ensures { λ _. ⌜ now (column .exit) ≡ tabulate rows
+        (λ i. times (times (getD (now (first .entry)) i nan) (getD (now (second .entry)) i nan)) (getD (now (third .entry)) i nan)) ⌝ }
+{
+    let mut i = 0;
+    while i < rows {
+        column[i] = (first[i] * second[i]) * third[i];
+        i += 1;
+    }
+}
+
+// The product of as many columns as the dimension says.
+fn multiply(
+    dimension: usize,
+    rows: usize,
+    first: &[f64],
+    second: &[f64],
+    third: &[f64],
+    column: &mut [f64],
+)
+    requires { ⌜ (1 ≤ dimension) × (dimension ≤ 3) × (length (now first) ≡ rows) × (length (now second) ≡ rows) ×
+        (length (now third) ≡ rows) × (length (now column) ≡ rows) ⌝ }
+    ensures { λ _. ⌜ now (column .exit) ≡ tabulate rows
+        (λ i. chain (dimension - 1) (λ m. getD (three (now (first .entry)) (now (second .entry)) (now (third .entry)) m) i nan)) ⌝ }
+{
+    if dimension == 1 {
+        common::copy_column(rows, first, 0, column);
+    } else if dimension == 2 {
+        multiply_two(rows, first, second, column);
+    } else {
+        multiply_three(rows, first, second, third, column);
+    }
+}
+
+// The column of one node.
+fn fill_product(
+    cell: Cell,
+    axes: Order,
+    node: usize,
+    first: &[f64],
+    second: &[f64],
+    third: &[f64],
+    column: &mut [f64],
+)
+    requires { ⌜ Sources (cell .dimension) (cell .order) (cell .rows) (three (axes .first) (axes .second) (axes .third))
+        (three (now first) (now second) (now third)) × (length (now column) ≡ cell .rows) ⌝ }
+    ensures { λ _. ⌜ now (column .exit) ≡ tabulate (cell .rows)
+        (λ i. productOf (cell .dimension) (cell .order) (cell .rows) (three (axes .first) (axes .second) (axes .third))
+        (three (now (first .entry)) (now (second .entry)) (now (third .entry))) i node) ⌝ }
+{
+    let rows = cell.rows;
+    let a = place_of(cell, axes.first, node);
+    let b = place_of(cell, axes.second, node);
+    let c = place_of(cell, axes.third, node);
+    let a_end = a + rows;
+    let b_end = b + rows;
+    let c_end = c + rows;
+    multiply(
+        cell.dimension,
+        rows,
+        &first[a..a_end],
+        &second[b..b_end],
+        &third[c..c_end],
+        column,
+    );
+}
+
+// The columns of all nodes, the last axis fastest.
+fn fill_products(
+    cell: Cell,
+    axes: Order,
+    first: &[f64],
+    second: &[f64],
+    third: &[f64],
+    out: &mut [f64],
+)
+    requires { ⌜ Sources (cell .dimension) (cell .order) (cell .rows) (three (axes .first) (axes .second) (axes .third))
+        (three (now first) (now second) (now third)) × (length (now out) ≡ cell .order ^ cell .dimension * cell .rows) ⌝ }
+    ensures { λ _. ⌜ now (out .exit) ≡ columnMajor (cell .rows) (cell .order ^ cell .dimension)
+        (productOf (cell .dimension) (cell .order) (cell .rows) (three (axes .first) (axes .second) (axes .third))
+        (three (now (first .entry)) (now (second .entry)) (now (third .entry)))) ⌝ }
+{
+    let rows = cell.rows;
+    let nodes = common::power(cell.order, cell.dimension);
+    let mut node = 0;
+    let mut at = 0;
+    while node < nodes {
+        let end = at + rows;
+        fill_product(cell, axes, node, first, second, third, &mut out[at..end]);
+        at = end;
+        node += 1;
+    }
+}
+
+// The second axis of a product that starts with another, and the third.
+fn second_axis(dimension: usize, axis: usize) -> usize
+    ensures { λ r. ⌜ r ≡ secondAxis dimension axis ⌝ }
+{
+    if dimension <= 1 {
+        return 0;
+    }
     if axis == 0 { 1 } else { 0 }
 }
 
-fn third_axis(axis: usize) -> usize
-    ensures { λ r. ⌜ r ≡ thirdAxis axis ⌝ }
+fn third_axis(dimension: usize, axis: usize) -> usize
+    ensures { λ r. ⌜ r ≡ thirdAxis dimension axis ⌝ }
 {
+    if dimension <= 2 {
+        return 0;
+    }
     if axis == 2 { 1 } else { 2 }
 }
 
-fn multiply_two(rows: usize, start: &[f64], second: &[f64], column: &mut [f64])
-    requires { ⌜ (size (now start) ≡ rows) × (size (now second) ≡ rows) × (size (now column) ≡ rows) ⌝ }
-    ensures { λ _. ⌜ now (column .exit) ≡ tabulate rows (λ i. times (getD (now (start .entry)) i nan) (getD (now (second .entry)) i nan)) ⌝ }
-{
-    let mut i = 0;
-    while i < rows {
-        column[i] = start[i] * second[i];
-        i += 1;
-    }
-}
-
-fn multiply_three(rows: usize, start: &[f64], second: &[f64], third: &[f64], column: &mut [f64])
-    requires { ⌜ (size (now start) ≡ rows) × (size (now second) ≡ rows) × (size (now third) ≡ rows) × (size (now column) ≡ rows) ⌝ }
-    ensures { λ _. ⌜ now (column .exit) ≡ tabulate rows (λ i. times (times (getD (now (start .entry)) i nan) (getD (now (second .entry)) i nan)) (getD (now (third .entry)) i nan)) ⌝ }
-{
-    let mut i = 0;
-    while i < rows {
-        column[i] = (start[i] * second[i]) * third[i];
-        i += 1;
-    }
-}
-
-// Where the columns of an axis begin that go with a lead's nodes, one after the other.
-struct Stride {
-    from: usize,
-    step: usize,
-}
-
-// On the last axis each node has the next column, and on the others the column stays.
-fn stride_of(dimension: usize, rows: usize, axis: usize, from: usize) -> Stride
-    requires { ⌜ axis < dimension ⌝ }
-    ensures { λ r. ⌜ (r .from ≡ from) × (r .step ≡ stepOf dimension rows axis) ⌝ }
-{
-    if axis + 1 == dimension {
-        Stride { from, step: rows }
-    } else {
-        Stride { from, step: 0 }
-    }
-}
-
-// The columns of a lead's nodes, from two axes.
-fn fill_two(
-    order: usize,
-    rows: usize,
-    start: Stride,
-    second: Stride,
-    starts: &[f64],
-    factors: &[f64],
-    out: &mut [f64],
-)
-    requires { ⌜ Within order rows (start .from) (start .step) (size (now starts)) × Within order rows (second .from) (second .step) (size (now factors)) × (size (now out) ≡ order * rows) ⌝ }
-    ensures { λ _. ⌜ now (out .exit) ≡ columnMajor rows order (λ i n. times (strided (now (starts .entry)) (start .from) (start .step) i n) (strided (now (factors .entry)) (second .from) (second .step) i n)) ⌝ }
-{
-    let mut a = start.from;
-    let mut b = second.from;
-    let mut at = 0;
-    let mut n = 0;
-    while n < order {
-        let a_end = a + rows;
-        let b_end = b + rows;
-        let end = at + rows;
-        multiply_two(
-            rows,
-            &starts[a..a_end],
-            &factors[b..b_end],
-            &mut out[at..end],
-        );
-        a += start.step;
-        b += second.step;
-        at = end;
-        n += 1;
-    }
-}
-
-// The same from three: the column of the second is one for all of them.
-fn fill_three(
-    order: usize,
-    rows: usize,
-    start: Stride,
-    second: &[f64],
-    third: Stride,
-    starts: &[f64],
-    factors: &[f64],
-    out: &mut [f64],
-)
-    requires { ⌜ Within order rows (start .from) (start .step) (size (now starts)) × (size (now second) ≡ rows) × Within order rows (third .from) (third .step) (size (now factors)) × (size (now out) ≡ order * rows) ⌝ }
-    ensures { λ _. ⌜ now (out .exit) ≡ columnMajor rows order (λ i n. times (times (strided (now (starts .entry)) (start .from) (start .step) i n) (getD (now (second .entry)) i nan)) (strided (now (factors .entry)) (third .from) (third .step) i n)) ⌝ }
-{
-    let mut a = start.from;
-    let mut c = third.from;
-    let mut at = 0;
-    let mut n = 0;
-    while n < order {
-        let a_end = a + rows;
-        let c_end = c + rows;
-        let end = at + rows;
-        let x = &starts[a..a_end];
-        multiply_three(rows, x, second, &factors[c..c_end], &mut out[at..end]);
-        a += start.step;
-        c += third.step;
-        at = end;
-        n += 1;
-    }
-}
-
-// The columns of the nodes that differ on the last axis only: those of one lead, which counts the other axes' indices.
-fn fill_lead(
-    dimension: usize,
-    order: usize,
-    rows: usize,
-    axis: usize,
-    lead: usize,
-    starts: &[f64],
-    factors: &[f64],
-    out: &mut [f64],
-)
-    requires { ⌜ Shape dimension order × (2 ≤ dimension) × (rows ≤ 4096) × (axis < dimension) × (lead ≤ 4096) × (size (now starts) ≡ order * rows) × (size (now factors) ≡ dimension * order * rows) × (size (now out) ≡ order * rows) ⌝ }
-    ensures { λ _. ⌜ now (out .exit) ≡ columnMajor rows order (λ i n. productOf dimension order rows axis (now (starts .entry)) (now (factors .entry)) i (lead * order + n)) ⌝ }
-{
-    let first = lead * order;
-    let from = index_on(dimension, order, axis, first) * rows;
-    let start = stride_of(dimension, rows, axis, from);
-    let other = second_axis(axis);
-    let place = place_of(dimension, order, rows, other, first);
-    if dimension == 2 {
-        let second = stride_of(dimension, rows, other, place);
-        fill_two(order, rows, start, second, starts, factors, out);
-        return;
-    }
-    let end = place + rows;
-    let last = third_axis(axis);
-    let last_place = place_of(dimension, order, rows, last, first);
-    let third = stride_of(dimension, rows, last, last_place);
-    fill_three(
-        order,
-        rows,
-        start,
-        &factors[place..end],
-        third,
-        starts,
-        factors,
-        out,
-    );
-}
-
-// The columns of all nodes, for products that start with one axis.
-fn fill_columns(
-    dimension: usize,
-    order: usize,
-    rows: usize,
+// The columns of all nodes, for products that start with one axis of one buffer and go on with the others of another.
+pub(crate) fn fill_started(
+    cell: Cell,
     axis: usize,
     starts: &[f64],
     factors: &[f64],
     out: &mut [f64],
 )
-    requires { ⌜ Shape dimension order × (rows ≤ 4096) × (axis < dimension) × (size (now starts) ≡ order * rows) × (size (now factors) ≡ dimension * order * rows) × (size (now out) ≡ order ^ dimension * rows) ⌝ }
-    ensures { λ _. ⌜ now (out .exit) ≡ columnMajor rows (order ^ dimension) (productOf dimension order rows axis (now (starts .entry)) (now (factors .entry))) ⌝ }
+    requires { ⌜ Shape (cell .dimension) (cell .order) × (cell .rows ≤ mostPoints) × (axis < cell .dimension) ×
+        (length (now starts) ≡ cell .dimension * cell .order * cell .rows) ×
+        (length (now factors) ≡ cell .dimension * cell .order * cell .rows) ×
+        (length (now out) ≡ cell .order ^ cell .dimension * cell .rows) ⌝ }
+    ensures { λ _. ⌜ now (out .exit) ≡ columnMajor (cell .rows) (cell .order ^ cell .dimension)
+        (startedOf (cell .dimension) (cell .order) (cell .rows) axis (now (starts .entry)) (now (factors .entry))) ⌝ }
 {
-    let side = order * rows;
-    if dimension == 1 {
-        common::copy_column(side, starts, 0, out);
-        return;
-    }
-    let leads = common::power(order, dimension - 1);
-    let mut lead = 0;
-    let mut at = 0;
-    while lead < leads {
-        let end = at + side;
-        fill_lead(
-            dimension,
-            order,
-            rows,
-            axis,
-            lead,
-            starts,
-            factors,
-            &mut out[at..end],
-        );
-        at = end;
-        lead += 1;
-    }
-}
-
-// The values' columns. Their products start with the first axis, whose factors come first.
-pub(crate) fn fill_values(
-    dimension: usize,
-    order: usize,
-    rows: usize,
-    factors: &[f64],
-    values: &mut [f64],
-)
-    requires { ⌜ Shape dimension order × (rows ≤ 4096) × (size (now factors) ≡ dimension * order * rows) × (size (now values) ≡ order ^ dimension * rows) ⌝ }
-    ensures { λ _. ⌜ now (values .exit) ≡ columnMajor rows (order ^ dimension) (productOf dimension order rows 0 (now (factors .entry)) (now (factors .entry))) ⌝ }
-{
-    let count = order * rows;
-    fill_columns(
-        dimension,
-        order,
-        rows,
-        0,
-        &factors[..count],
-        factors,
-        values,
-    );
+    let axes = Order {
+        first: axis,
+        second: second_axis(cell.dimension, axis),
+        third: third_axis(cell.dimension, axis),
+    };
+    fill_products(cell, axes, starts, factors, factors, out);
 }
 
 // The gradient's columns, axis after axis.
-fn fill_axes_columns(
-    dimension: usize,
-    order: usize,
-    rows: usize,
-    slopes: &[f64],
-    factors: &[f64],
-    gradients: &mut [f64],
-)
-    requires { ⌜ Shape dimension order × (rows ≤ 4096) × (size (now slopes) ≡ dimension * order * rows) × (size (now factors) ≡ dimension * order * rows) × (size (now gradients) ≡ dimension * order ^ dimension * rows) ⌝ }
-    ensures { λ _. ⌜ now (gradients .exit) ≡ columnMajor rows (dimension * order ^ dimension) (gradientOf dimension order rows (now (slopes .entry)) (now (factors .entry))) ⌝ }
+fn fill_axes_columns(cell: Cell, slopes: &[f64], factors: &[f64], gradients: &mut [f64])
+    requires { ⌜ Shape (cell .dimension) (cell .order) × (cell .rows ≤ mostPoints) ×
+        (length (now slopes) ≡ cell .dimension * cell .order * cell .rows) ×
+        (length (now factors) ≡ cell .dimension * cell .order * cell .rows) ×
+        (length (now gradients) ≡ cell .dimension * cell .order ^ cell .dimension * cell .rows) ⌝ }
+    ensures { λ _. ⌜ now (gradients .exit) ≡ columnMajor (cell .rows) (cell .dimension * cell .order ^ cell .dimension)
+        (gradientOf (cell .dimension) (cell .order) (cell .rows) (now (slopes .entry)) (now (factors .entry))) ⌝ }
 {
-    let count = common::power(order, dimension) * rows;
-    let side = order * rows;
+    let dimension = cell.dimension;
+    let count = common::power(cell.order, dimension) * cell.rows;
     let mut axis = 0;
     let mut at = 0;
-    let mut from = 0;
     while axis < dimension {
         let end = at + count;
-        let to = from + side;
-        let starts = &slopes[from..to];
-        fill_columns(
-            dimension,
-            order,
-            rows,
-            axis,
-            starts,
-            factors,
-            &mut gradients[at..end],
-        );
+        fill_started(cell, axis, slopes, factors, &mut gradients[at..end]);
         at = end;
-        from = to;
         axis += 1;
     }
 }
@@ -298,12 +223,16 @@ pub(crate) fn fill_gradients(
     factors: &[f64],
     gradients: &mut [f64],
 )
-    requires { ⌜ Shape (cell .dimension) (cell .order) × (cell .rows ≤ 4096) × (size (now slopes) ≡ sizeIf «with_gradients» (cell .dimension * cell .order * cell .rows)) × (size (now factors) ≡ cell .dimension * cell .order * cell .rows) × (size (now gradients) ≡ sizeIf «with_gradients» (cell .dimension * cell .order ^ cell .dimension * cell .rows)) ⌝ }
-    ensures { λ _. ⌜ now (gradients .exit) ≡ cond «with_gradients» (columnMajor (cell .rows) (cell .dimension * cell .order ^ cell .dimension) (gradientOf (cell .dimension) (cell .order) (cell .rows) (now (slopes .entry)) (now (factors .entry)))) (now (gradients .entry)) ⌝ }
+    requires { ⌜ Shape (cell .dimension) (cell .order) × (cell .rows ≤ mostPoints) ×
+        (length (now slopes) ≡ sizeIf «with_gradients» (cell .dimension * cell .order * cell .rows)) ×
+        (length (now factors) ≡ cell .dimension * cell .order * cell .rows) ×
+        (length (now gradients) ≡ sizeIf «with_gradients» (cell .dimension * cell .order ^ cell .dimension * cell .rows)) ⌝ }
+    ensures { λ _. ⌜ now (gradients .exit) ≡ cond «with_gradients»
+        (columnMajor (cell .rows) (cell .dimension * cell .order ^ cell .dimension)
+        (gradientOf (cell .dimension) (cell .order) (cell .rows) (now (slopes .entry)) (now (factors .entry))))
+        (now (gradients .entry)) ⌝ }
 {
-    let dimension = cell.dimension;
-    let order = cell.order;
     if with_gradients {
-        fill_axes_columns(dimension, order, cell.rows, slopes, factors, gradients);
+        fill_axes_columns(cell, slopes, factors, gradients);
     }
 }

@@ -5,3 +5,14 @@ mod limits;
 
 pub use axes::Cell;
 pub use call::get_approximation_coefficients;
+
+// The lengths of the lent buffers.
+pub struct Lengths {
+    pub points: usize,
+    pub centre: usize,
+    pub polynomials: usize,
+    pub values: usize,
+    pub gradients: usize,
+    pub factors: usize,
+    pub slopes: usize,
+}

@@ -1,21 +1,11 @@
 // The refusals of the coefficients' call.
 ghost use mathlib.Core.Path.{_≡_};
 ghost use Prim.Native.Nat.{_≤_};
-ghost use Rattle.common.specs.Refusals.{Shape};
+ghost use Rattle.common.specs.Refusals.{Shape, mostPoints};
 ghost use Rattle.coefficients.specs.Coefficients.{lengthsFit, coefficientsNumber};
+use crate::Lengths;
 use axes::Cell;
 use axes::all_finite;
-
-// The lengths of the lent buffers.
-pub(crate) struct Lengths {
-    pub points: usize,
-    pub centre: usize,
-    pub polynomials: usize,
-    pub values: usize,
-    pub gradients: usize,
-    pub factors: usize,
-    pub slopes: usize,
-}
 
 fn lengths_fit(
     dimension: usize,
@@ -24,8 +14,8 @@ fn lengths_fit(
     with_gradients: bool,
     lent: Lengths,
 ) -> bool
-    requires { ⌜ Shape dimension order × (rows ≤ 4096) ⌝ }
-    ensures { λ r. ⌜ r ≡ lengthsFit dimension order rows «with_gradients» (lent .points) (lent .centre) (lent .polynomials) (lent .values) (lent .gradients) (lent .factors) (lent .slopes) ⌝ }
+    requires { ⌜ Shape dimension order × (rows ≤ mostPoints) ⌝ }
+    ensures { λ r. ⌜ r ≡ lengthsFit dimension order rows «with_gradients» lent ⌝ }
 {
     let nodes = common::power(order, dimension);
     let columns = dimension * order;
@@ -58,7 +48,9 @@ pub(crate) fn coefficients_number(
     points: &[f64],
     lent: Lengths,
 ) -> u8
-    ensures { λ r. ⌜ r ≡ coefficientsNumber (cell .dimension) (cell .order) (cell .rows) (cell .length) (now (centre .entry)) (now (points .entry)) (lengthsFit (cell .dimension) (cell .order) (cell .rows) «with_gradients» (lent .points) (lent .centre) (lent .polynomials) (lent .values) (lent .gradients) (lent .factors) (lent .slopes)) ⌝ }
+    ensures { λ r. ⌜ r ≡
+        coefficientsNumber (cell .dimension) (cell .order) (cell .rows) (cell .side) (now (centre .entry)) (now (points .entry))
+        (lengthsFit (cell .dimension) (cell .order) (cell .rows) «with_gradients» lent) ⌝ }
 {
     let dimension = cell.dimension;
     let order = cell.order;
@@ -67,13 +59,13 @@ pub(crate) fn coefficients_number(
     if shape != 0 {
         return shape;
     }
-    if 4096 < rows {
+    if common::MOST_POINTS < rows {
         return common::NO_COUNT;
     }
     if !lengths_fit(dimension, order, rows, with_gradients, lent) {
         return common::WRONG_LENGTH;
     }
-    if !common::is_cell(cell.length) {
+    if !common::is_cell(cell.side) {
         return common::NO_CELL;
     }
     if !all_finite(points) {

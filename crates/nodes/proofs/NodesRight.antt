@@ -1,40 +1,29 @@
--- The rule of the nodes at every entry of the table, by one test that antt computes. Assumes nothing.
+-- The rule of the nodes at every entry of the table, by one test that antt computes, over any set of nodes. Assumes nothing.
 use mathlib.Core.Path.{_≡_, refl, sym, _∙_}
 use mathlib.Core.Bool.{Bool, true, false, cond, _&&_, and-eq-true-iff}
 use mathlib.Core.List.{List}
-use Prim.Native.Nat.{ℕ, zero, suc, _<_, _≤_}
+use Prim.Native.Nat.{ℕ, zero, suc, _+_, _*_, _-_, _/_, _^_, _<_, _≤_}
 use native.Mathlib.Nat.{not-suc-le-zero}
 use native.Mathlib.Omega.{arith}
-use lib.Dec.{T, ltb}
-use lib.IntN.{_+ℤ_, _-ℤ_}
+use lib.Dec.{T, ltb, leb}
+use lib.IntN.{pos, _+ℤ_, _-ℤ_, _*ℤ_}
 use lib.Signed.{ltZ, ltZ-yes}
 use lib.Ieee.{Float, nan, ofBits}
-use lib.ListN.{length, getD}
-use borrow.Author.Tests.{lt-ltb}
+use lib.ListN.{length, getD, take, drop}
+use borrow.Author.Tests.{lt-ltb, leb-true}
 use Rattle.common.specs.Lists.{tabulate, stretch}
 use Rattle.common.specs.Tests.{each}
-use Rattle.common.proofs.Fill.{getD-tabulate, tabulate-cong, fill-all}
+use Rattle.common.proofs.Fill.{getD-tabulate, tabulate-cong, fill-all, part-length, part-read}
 use Rattle.common.proofs.Tests.{each-at}
-use Rattle.nodes.specs.Nodes.{entry, node}
-use Rattle.nodes.specs.Rule.{gap, margin, scaled, whole, chebyshev, opposite, place, Node}
+use Rattle.nodes.specs.Nodes.{entry, start, node}
+use Rattle.nodes.specs.Rule.{one, gap, margin, enlarged, whole, chebyshev, opposite, place, Node}
 
--- THE TEST of one node: it is exact, the next is more than 1/64 above it, and T_p crosses zero there
-exactly : (p i : ℕ) → Bool
-exactly p i = whole (node p i)
+-- 1/64 and 2 ^ -48
+gap-is : pos 64 *ℤ gap ≡ one
+gap-is = refl
 
-rising : (p i : ℕ) → Bool
-rising p i = cond (ltb (suc i) p) (ltZ (place p i +ℤ gap) (place p (suc i))) true
-
-crossing : (p i : ℕ) → Bool
-crossing p i = opposite (chebyshev p (place p i -ℤ margin)) (chebyshev p (place p i +ℤ margin))
-
-right : (p i : ℕ) → Bool
-right p i = exactly p i && (rising p i && crossing p i)
-
--- the test of all: the orders 1 to 16, and each order's nodes
-all-right : each 16 (λ q. each (suc q) (right (suc q))) ≡ true
-unfolding each right exactly rising crossing whole place scaled chebyshev entry ofBits
-all-right = refl
+margin-is : pos (2 ^ 48) *ℤ margin ≡ one
+margin-is = refl
 
 passed : (b : Bool) → b ≡ true → T b
 passed true h = tt
@@ -43,23 +32,64 @@ passed false h = let z : true ≡ false = sym h in absurd (not-true-false z)
     not-true-false : true ≡ false → ⊥
     not-true-false e = let z : _≡_ {A = ℕ} 0 1 = cc in omega arith
 
--- THE RULE at each node
-pub nodes-right : (p i : ℕ) → 1 ≤ p → p ≤ 16 → i < p → Node p i
-unfolding right exactly rising crossing
-nodes-right zero i l u h = absurd (not-suc-le-zero l)
-nodes-right (suc q) i l u h =
-    let here : right (suc q) i ≡ true = each-at (suc q) (right (suc q))
-    (each-at 16 (λ r. each (suc r) (right (suc r))) all-right q (omega arith)) i h in
-    let one = and-eq-true-iff (exactly (suc q) i) (rising (suc q) i && crossing (suc q) i) .0 here in
-    let two = and-eq-true-iff (rising (suc q) i) (crossing (suc q) i) .0 (one .1) in
-    record {
-      exact = passed _ (one .0);
-      rises = λ n. ltZ-yes (passed _ (rw (lt-ltb (suc i) (suc q) n) at (two .0)));
-      crosses = passed _ (two .1);
-    }
+module _ (x : ℕ → ℕ → Float) where
+  -- THE TEST of one node: it is exact, the next is more than 1/64 above it, and T_p crosses zero there
+  exactly : (p i : ℕ) → Bool
+  exactly p i = whole (x p i)
 
--- A ROW of the constant table: a call has copied it, and it holds the nodes of its order
-pub row-right : (p k : ℕ) (nodes after : List Float) → p ≡ k → length nodes ≡ p → after ≡ stretch 0 k (λ i. getD (tabulate k (node k)) i nan) nodes →
-    after ≡ tabulate p (node p)
-row-right p k nodes after e long made =
-    rw e (made ∙ fill-all k _ nodes (long ∙ e) ∙ tabulate-cong k _ (node k) (λ i h. getD-tabulate k (node k) i nan h))
+  rising : (p i : ℕ) → Bool
+  rising p i = cond (ltb (suc i) p) (ltZ (place x p i +ℤ gap) (place x p (suc i))) true
+
+  crossing : (p i : ℕ) → Bool
+  crossing p i = opposite (chebyshev p (place x p i -ℤ margin)) (chebyshev p (place x p i +ℤ margin))
+
+  right : (p i : ℕ) → Bool
+  right p i = exactly p i && (rising p i && crossing p i)
+
+  -- the test of all: the orders 1 to 16, and each order's nodes
+  pub allRight : Bool
+  allRight = each 16 (λ q. each (suc q) (right (suc q)))
+
+  -- a set that passes has the rule at each node
+  pub rule-of : allRight ≡ true → (p i : ℕ) → 1 ≤ p → p ≤ 16 → i < p → Node x p i
+  unfolding allRight right exactly rising crossing
+  rule-of all zero i l u h = absurd (not-suc-le-zero l)
+  rule-of all (suc q) i l u h =
+      let here : right (suc q) i ≡ true = each-at (suc q) (right (suc q)) (each-at 16 (λ r. each (suc r) (right (suc r))) all q (omega arith)) i h in
+      let one = and-eq-true-iff (exactly (suc q) i) (rising (suc q) i && crossing (suc q) i) .0 here in
+      let two = and-eq-true-iff (rising (suc q) i) (crossing (suc q) i) .0 (one .1) in
+      record {
+        exact = passed _ (one .0);
+        rises = λ n. ltZ-yes (passed _ (rw (lt-ltb (suc i) (suc q) n) at (two .0)));
+        crosses = passed _ (two .1);
+      }
+
+-- THE RULE of the Rust's nodes
+all-right : allRight node ≡ true
+unfolding allRight each right exactly rising crossing whole place enlarged chebyshev entry ofBits
+all-right = refl
+
+pub nodes-right : (p i : ℕ) → 1 ≤ p → p ≤ 16 → i < p → Node node p i
+nodes-right = rule-of node all-right
+
+-- THE ROWS: a stretch of the table is the row of an order
+
+small : (p : ℕ) → p ≤ 16 → leb (p * (p - 1)) 240 && leb (start p + p) 136 ≡ true
+unfolding each
+small p u = each-at 17 (λ p. leb (p * (p - 1)) 240 && leb (start p + p) 136) refl p (omega arith)
+
+pub start-most : (p : ℕ) → p ≤ 16 → p * (p - 1) ≤ 240
+start-most p u = leb-true _ 240 (and-eq-true-iff (leb (p * (p - 1)) 240) (leb (start p + p) 136) .0 (small p u) .0)
+
+pub row-most : (p : ℕ) → p ≤ 16 → start p + p ≤ 136
+row-most p u = leb-true _ 136 (and-eq-true-iff (leb (p * (p - 1)) 240) (leb (start p + p) 136) .0 (small p u) .1)
+
+pub row-long : (p e : ℕ) (table : List Float) → e ≡ start p + p → start p + p ≤ length table → p ≤ length (take (e - start p) (drop (start p) table))
+row-long p e table end h = omega (arith, part-length (start p) e p table end h)
+
+pub row-right : (p e : ℕ) (table nodes after : List Float) → p ≤ 16 → length nodes ≡ p → table ≡ tabulate 136 entry → e ≡ start p + p →
+    after ≡ stretch 0 p (λ i. getD (take (e - start p) (drop (start p) table)) i nan) nodes → after ≡ tabulate p (node p)
+row-right p e table nodes after u long whole end made =
+    let at : (i : ℕ) → i < p → getD (take (e - start p) (drop (start p) table)) i nan ≡ node p i =
+    λ i h. part-read (start p) e p table i nan end h ∙ rw whole (getD-tabulate 136 entry (start p + i) nan (omega (arith, row-most p u))) in
+    made ∙ fill-all p _ nodes long ∙ tabulate-cong p _ (node p) at

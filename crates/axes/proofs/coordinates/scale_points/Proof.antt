@@ -1,14 +1,14 @@
--- `axes::coordinates::scale_points` meets its contract. The loop keeps `Stepping`: the axes before `axis` are scaled. Assumes nothing.
+-- `axes::coordinates::scale_points` meets its contract. The loop keeps `Stepping`: the axes before `axis` are coordinateIn. Assumes nothing.
 use borrow.Author.Needs.{needs}
 use mathlib.Core.Path.{_∙_}
 use Prim.Native.Nat.{_+_, _-_, _≤_}
 use native.Mathlib.Omega.{arith}
-use lib.ListN.{length as size}
+use lib.ListN.{length}
 use Rattle.common.specs.Matrices.{cell}
 use Rattle.common.proofs.Steps.{Stepping, stepping-none, stepping-fits, stepping-done}
 use Rattle.common.proofs.Matrices.{columns-filled}
 use Rattle.axes.specs.Axes.{coordinate}
-use Rattle.axes.proofs.Stretches.{axis-scaled}
+use Rattle.axes.proofs.Stretches.{axis-coordinateIn}
 use Rattle.axes.proofs.coordinates.scale_points.Statement.{statement}
 use Rattle.axes.proofs.coordinates.scale_points.Tie as tie
 
@@ -19,15 +19,15 @@ abbrev μ-loop : tie.MeasureT-loop
 μ-loop dimension rows length centre points₀ axis₀ at₀ points axis at = dimension - axis
 
 -- there is room for the axis
-room : (c : tie.In-loop Inv-loop μ-loop) → c .before .loop .at + c .before .before .before .before .args .rows ≤ size (c .before .loop .points)
+room : (c : tie.In-loop Inv-loop μ-loop) → c .before .loop .at + c .before .before .before .before .args .rows ≤ length (c .before .loop .points)
 room c =
     let s = c .before .before .before .before in
     let a = s .args in
-    let fits = stepping-fits 0 (a .dimension) (a .rows) (cell (a .rows) (coordinate (a .rows) (a .length) (a .centre .now) (a .points .now))) _ _ _ _ (c .before .loop .inv) (c .loop-test .taken) in
+    let fits = stepping-fits 0 (a .dimension) (a .rows) (cell (a .rows) (coordinate (a .rows) (a .side) (a .centre .now) (a .points .now))) _ _ _ _ (c .before .loop .inv) (c .loop-test .taken) in
     omega (arith, fits, c .before .loop .inv .long, s .pre .2)
 
 loop-holds : tie.Need-loop-holds Inv-loop μ-loop
-loop-holds c = let a = c .before .before .args in stepping-none 0 (a .dimension) (a .rows) (cell (a .rows) (coordinate (a .rows) (a .length) (a .centre .now) (a .points .now))) _
+loop-holds c = let a = c .before .before .args in stepping-none 0 (a .dimension) (a .rows) (cell (a .rows) (coordinate (a .rows) (a .side) (a .centre .now) (a .points .now))) _
 
 mul-scale-axis : tie.Need-mul-scale-axis Inv-loop μ-loop
 mul-scale-axis c = omega (arith, c .before .before .before .before .pre .0, c .loop-test .taken)
@@ -53,7 +53,7 @@ loop-again : tie.Need-loop-again Inv-loop μ-loop
 loop-again c =
     let s = c .before .before .before .before .before .before .before .before .before in
     let a = s .args in
-    axis-scaled (a .dimension) (a .rows) (a .length) (a .centre .now) (a .points .now) (s .pre .2) _ _ _ _ (c .before .before .before .before .before .before .loop .inv) (c .before .before .before .before .before .loop-test .taken) (c .before .before .scale-axis .ensures)
+    axis-coordinateIn (a .dimension) (a .rows) (a .side) (a .centre .now) (a .points .now) (s .pre .2) _ _ _ _ (c .before .before .before .before .before .before .loop .inv) (c .before .before .before .before .before .loop-test .taken) (c .before .before .scale-axis .ensures)
 
 same-length : tie.Need-same-length Inv-loop μ-loop
 same-length c = c .before .loop .inv .long
@@ -62,8 +62,8 @@ returns : tie.Need-returns Inv-loop μ-loop
 returns c =
     let s = c .before .before .before .before in
     let a = s .args in
-    stepping-done 0 (a .dimension) (a .rows) (cell (a .rows) (coordinate (a .rows) (a .length) (a .centre .now) (a .points .now))) _ _ _ _ (c .before .loop .inv) (c .loop-test .left)
-    ∙ columns-filled (a .rows) (coordinate (a .rows) (a .length) (a .centre .now) (a .points .now)) (a .dimension) _ (s .pre .2)
+    stepping-done 0 (a .dimension) (a .rows) (cell (a .rows) (coordinate (a .rows) (a .side) (a .centre .now) (a .points .now))) _ _ _ _ (c .before .loop .inv) (c .loop-test .left)
+    ∙ columns-filled (a .rows) (coordinate (a .rows) (a .side) (a .centre .now) (a .points .now)) (a .dimension) _ (s .pre .2)
 
 pub scale-points-spec : {M : Type 1} → statement M
 scale-points-spec =

@@ -20,32 +20,32 @@ mul-count : tie.Need-mul-count
 mul-count c =
     let s = c .before .before .before .before .before .before .before .before .before .before .before .before .before in
     let a = s .args in
-    omega (arith, mul-le-mul {n₁ = a .cell .order} {m₁ = a .cell .rows} {n₂ = 16} {m₂ = 4096} (s .pre .1) (s .pre .2))
+    omega (arith, mul-le-mul {n₁ = a .cell .order} {m₁ = a .cell .rows} {n₂ = 16} {m₂ = 4096} (s .pre .order-most) (s .pre .few))
 
 sum-columns-requires : tie.Need-sum-columns-requires
 sum-columns-requires c κs =
     let s = c .before .before .before .before .before .before .before .before .before .before .before .before .before .before .before in
     let a = s .args in
-    let t = polynomials-filled (a .cell .order) (a .cell .rows) (a .with-gradients) (a .points .now) (a .tn .now) (a .dtn .now) _ _ _ (s .pre .0) (s .pre .1) (s .pre .2) (s .pre .3) (s .pre .5) (s .pre .6) (c .before .before .before .before .before .before .evaluate-chebyshev-polynomials .ensures) in
-    (ap length (t .0) ∙ column-length (a .cell .rows) _ (a .cell .order), s .pre .4, s .pre .7)
+    let t = polynomials-filled (a .cell .order) (a .cell .rows) (a .with-gradients) (a .points .now) (a .tn .now) (a .dtn .now) _ _ _ (s .pre .order-least) (s .pre .order-most) (s .pre .few) (s .pre .points) (s .pre .values) (s .pre .derivatives) (c .before .before .before .before .before .before .evaluate-chebyshev-polynomials .ensures) in
+    (ap length (t .0) ∙ column-length (a .cell .rows) _ (a .cell .order), s .pre .polynomials, s .pre .factors)
 
 finish-factors-requires : tie.Need-finish-factors-requires
-finish-factors-requires c κs = let s = c .before .before .before .before .before .before .before .before .before .before .before .before .before .before .before .before .before .before .before in (s .pre .1, omega (arith, c .before .before .before .sum-columns .kept, s .pre .7))
+finish-factors-requires c κs = let s = c .before .before .before .before .before .before .before .before .before .before .before .before .before .before .before .before .before .before .before in (s .pre .order-most, omega (arith, c .before .before .before .sum-columns .kept, s .pre .factors))
 
 sum-columns-requires-2 : tie.Need-sum-columns-requires-2
 sum-columns-requires-2 c κs =
     let s = c .before .before .before .before .before .before .before .before .before .before .before .before .before .before .before .before .before .before .before .before .before .before .before .before .before in
     let a = s .args in
     let w = c .before .before .if1 .taken in
-    let t = polynomials-filled (a .cell .order) (a .cell .rows) (a .with-gradients) (a .points .now) (a .tn .now) (a .dtn .now) _ _ _ (s .pre .0) (s .pre .1) (s .pre .2) (s .pre .3) (s .pre .5) (s .pre .6) (c .before .before .before .before .before .before .before .before .before .before .before .before .before .before .before .before .evaluate-chebyshev-polynomials .ensures) in
-    (ap length (rw w at (t .1)) ∙ column-length (a .cell .rows) _ (a .cell .order), s .pre .4, rw w at (s .pre .8))
+    let t = polynomials-filled (a .cell .order) (a .cell .rows) (a .with-gradients) (a .points .now) (a .tn .now) (a .dtn .now) _ _ _ (s .pre .order-least) (s .pre .order-most) (s .pre .few) (s .pre .points) (s .pre .values) (s .pre .derivatives) (c .before .before .before .before .before .before .before .before .before .before .before .before .before .before .before .before .evaluate-chebyshev-polynomials .ensures) in
+    (ap length (rw w at (t .1)) ∙ column-length (a .cell .rows) _ (a .cell .order), s .pre .polynomials, rw w at (s .pre .slopes))
 
 finish-slopes-requires : tie.Need-finish-slopes-requires
 finish-slopes-requires c κs =
     let s = c .before .before .before .before .before .before .before .before .before .before .before .before .before .before .before .before .before .before .before .before .before .before .before .before .before .before .before .before .before in
     let a = s .args in
-    let room : a .at + a .cell .order * a .cell .rows ≤ length (a .slopes .now) = rw (c .before .before .before .before .before .before .if1 .taken) at (s .pre .8) in
-    (s .pre .1, omega (arith, c .before .before .before .sum-columns2 .kept, room))
+    let room : a .at + a .cell .order * a .cell .rows ≤ length (a .slopes .now) = rw (c .before .before .before .before .before .before .if1 .taken) at (s .pre .slopes) in
+    (s .pre .order-most, omega (arith, c .before .before .before .sum-columns2 .kept, room))
 
 same-length : tie.Need-same-length
 same-length c = search needs
@@ -65,9 +65,9 @@ returns c =
     let s = c .before .before .before .before .before .before .before .before .before .before .before .before .before .before .before .before .before .before .before .before .before .before .before .before .before .before .before .before .before .before .before .before in
     let a = s .args in
     let w = c .before .before .before .before .before .before .before .before .before .if1 .taken in
-    let t = polynomials-filled (a .cell .order) (a .cell .rows) (a .with-gradients) (a .points .now) (a .tn .now) (a .dtn .now) _ _ _ (s .pre .0) (s .pre .1) (s .pre .2) (s .pre .3) (s .pre .5) (s .pre .6) (c .before .before .before .before .before .before .before .before .before .before .before .before .before .before .before .before .before .before .before .before .before .before .before .evaluate-chebyshev-polynomials .ensures) in (
-      axis-finished T (factorOf (a .cell .order)) (a .cell .order) (a .cell .rows) (a .points .now) (a .node-polynomials .now) _ _ _ _ _ (t .0) (s .pre .7) (c .before .before .before .before .before .before .before .before .before .before .before .before .before .before .before .before .sum-columns .ensures) (c .before .before .before .before .before .before .before .before .before .before .before .before .finish-factors .ensures),
-      wanted-yes (a .with-gradients) _ _ _ w (axis-finished T′ (slopeOf (a .cell .order) (a .cell .length)) (a .cell .order) (a .cell .rows) (a .points .now) (a .node-polynomials .now) _ _ _ _ _ (rw w at (t .1)) (rw w at (s .pre .8))
+    let t = polynomials-filled (a .cell .order) (a .cell .rows) (a .with-gradients) (a .points .now) (a .tn .now) (a .dtn .now) _ _ _ (s .pre .order-least) (s .pre .order-most) (s .pre .few) (s .pre .points) (s .pre .values) (s .pre .derivatives) (c .before .before .before .before .before .before .before .before .before .before .before .before .before .before .before .before .before .before .before .before .before .before .before .evaluate-chebyshev-polynomials .ensures) in (
+      axis-finished T (factorOf (a .cell .order)) (a .cell .order) (a .cell .rows) (a .points .now) (a .node-polynomials .now) _ _ _ _ _ (t .0) (s .pre .factors) (c .before .before .before .before .before .before .before .before .before .before .before .before .before .before .before .before .sum-columns .ensures) (c .before .before .before .before .before .before .before .before .before .before .before .before .finish-factors .ensures),
+      wanted-yes (a .with-gradients) _ _ _ w (axis-finished T′ (slopeOf (a .cell .order) (a .cell .side)) (a .cell .order) (a .cell .rows) (a .points .now) (a .node-polynomials .now) _ _ _ _ _ (rw w at (t .1)) (rw w at (s .pre .slopes))
           (c .before .before .before .before .before .before .sum-columns2 .ensures) (c .before .before .finish-slopes .ensures)),
     )
 
@@ -85,8 +85,8 @@ unfolding S S′
 returns-2 c =
     let s = c .before .before .before .before .before .before .before .before .before .before .before .before .before .before .before .before .before .before .before .before .before .before .before in
     let a = s .args in
-    let t = polynomials-filled (a .cell .order) (a .cell .rows) (a .with-gradients) (a .points .now) (a .tn .now) (a .dtn .now) _ _ _ (s .pre .0) (s .pre .1) (s .pre .2) (s .pre .3) (s .pre .5) (s .pre .6) (c .before .before .before .before .before .before .before .before .before .before .before .before .before .before .evaluate-chebyshev-polynomials .ensures) in
-    (axis-finished T (factorOf (a .cell .order)) (a .cell .order) (a .cell .rows) (a .points .now) (a .node-polynomials .now) _ _ _ _ _ (t .0) (s .pre .7) (c .before .before .before .before .before .before .before .sum-columns .ensures) (c .before .before .before .finish-factors .ensures), wanted-no (a .with-gradients) _ _ (c .if1 .left))
+    let t = polynomials-filled (a .cell .order) (a .cell .rows) (a .with-gradients) (a .points .now) (a .tn .now) (a .dtn .now) _ _ _ (s .pre .order-least) (s .pre .order-most) (s .pre .few) (s .pre .points) (s .pre .values) (s .pre .derivatives) (c .before .before .before .before .before .before .before .before .before .before .before .before .before .before .evaluate-chebyshev-polynomials .ensures) in
+    (axis-finished T (factorOf (a .cell .order)) (a .cell .order) (a .cell .rows) (a .points .now) (a .node-polynomials .now) _ _ _ _ _ (t .0) (s .pre .factors) (c .before .before .before .before .before .before .before .sum-columns .ensures) (c .before .before .before .finish-factors .ensures), wanted-no (a .with-gradients) _ _ (c .if1 .left))
 
 pub fill-axis-spec : {M : Type 1} → statement M
 fill-axis-spec =

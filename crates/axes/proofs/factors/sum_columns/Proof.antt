@@ -3,7 +3,7 @@ use borrow.Author.Needs.{needs}
 use mathlib.Core.Path.{sym}
 use Prim.Native.Nat.{_+_, _-_, _≤_}
 use native.Mathlib.Omega.{arith}
-use lib.ListN.{length as size}
+use lib.ListN.{length}
 use Rattle.common.specs.Matrices.{cell}
 use Rattle.common.proofs.Steps.{Stepping, stepping-none, stepping-fits, stepping-more, stepping-done}
 use Rattle.common.proofs.Matrices.{cell-at}
@@ -18,7 +18,7 @@ abbrev μ-loop : tie.MeasureT-loop
 μ-loop order rows polynomials node-polynomials at out₀ node₀ to₀ out node to = order - node
 
 -- there is room for the column
-room : (c : tie.In-loop Inv-loop μ-loop) → c .before .loop .to + c .before .before .before .before .before .args .rows ≤ size (c .before .loop .out)
+room : (c : tie.In-loop Inv-loop μ-loop) → c .before .loop .to + c .before .before .before .before .before .args .rows ≤ length (c .before .loop .out)
 room c =
     let s = c .before .before .before .before .before in
     let a = s .args in

@@ -2,9 +2,9 @@
 use borrow.Author.Needs.{needs}
 use mathlib.Core.Path.{_∙_}
 use Prim.Native.Nat.{_*_, _^_}
-use native.Mathlib.Nat.{mul-le-mul}
 use native.Mathlib.Omega.{arith}
 use Rattle.axes.proofs.Stretches.{wanted-fits}
+use Rattle.axes.specs.Axes.{coordinate}
 use Rattle.coefficients.proofs.Stretches.{axis-side, nodes-side}
 use Rattle.coefficients.proofs.Result.{memory-right}
 use Rattle.coefficients.proofs.call.fill_coefficients.Statement.{statement}
@@ -19,42 +19,33 @@ fill-axes-requires c κs =
     let h = s .pre in
     let a = s .args in
     let nodes = nodes-side (a .cell .dimension) (a .cell .order) (a .cell .rows) (h .shape .order-least) (h .shape .dimension-least) in
-    let room = axis-side (a .cell .dimension) (a .cell .order ^ a .cell .dimension) (a .cell .rows) (h .shape .dimension-least) in (
-      h .shape,
-      h .few,
-      c .before .before .before .before .before .before .before .scale-points .kept .1 .1 .1 .1 .0 ∙ h .points,
-      h .polynomials,
-      omega (arith, nodes, h .values),
-      wanted-fits (a .with-gradients) _ (a .cell .dimension * a .cell .order ^ a .cell .dimension * a .cell .rows) _ (omega (arith, nodes, room)) (h .gradients),
-      h .factors,
-      h .slopes,
-    )
+    let room = axis-side (a .cell .dimension) (a .cell .order ^ a .cell .dimension) (a .cell .rows) (h .shape .dimension-least) in
+    record {
+      shape = h .shape;
+      few = h .few;
+      points = c .before .before .before .before .before .before .before .scale-points .kept .1 .1 .1 .1 .0 ∙ h .points;
+      polynomials = h .polynomials;
+      values = omega (arith, nodes, h .values);
+      gradients = wanted-fits (a .with-gradients) _ (a .cell .dimension * a .cell .order ^ a .cell .dimension * a .cell .rows) _ (omega (arith, nodes, room)) (h .gradients);
+      factors = h .factors;
+      slopes = h .slopes;
+    }
+
+-- what is known once the axes are filled: `d` is the place after that call
 
 fill-gradients-requires : tie.Need-fill-gradients-requires
 fill-gradients-requires c κs =
-    let h = c .before .before .before .before .before .before .before .before .before .before .before .before .before .before .before .before .before .before .before .before .before .before .before .before .before .before .before .before .pre in
-    let call = c .before .before .before .before .before .before .before .before .before .before .before .fill-axes in
-    (h .shape, h .few, call .kept .1 .1 .1 .1 .1 .1 .1 .0 ∙ h .slopes, call .kept .1 .1 .1 .1 .1 .1 .0 ∙ h .factors, call .kept .1 .1 .1 .1 .1 .0 ∙ h .gradients)
+    let d = c .before .before .before .before .before .before .before .before .before .before .before in
+    let h = d .before .before .before .before .before .before .before .before .before .before .before .before .before .before .before .before .before .pre in
+    let kept = d .fill-axes .kept in
+    (h .shape, h .few, kept .1 .1 .1 .1 .1 .1 .1 .0 ∙ h .slopes, kept .1 .1 .1 .1 .1 .1 .0 ∙ h .factors, kept .1 .1 .1 .1 .1 .0 ∙ h .gradients)
 
-mul-start-values : tie.Need-mul-start-values
-mul-start-values c =
-    let s = c .before .before .before .before .before .before .before .before .before .before .before .before .before .before .before .before .before .before .before .before .before .before .before .before .before .before .before .before .before .before .before in
-    let h = s .pre in
-    let a = s .args in
-    omega (arith, mul-le-mul {n₁ = a .cell .order} {m₁ = a .cell .rows} {n₂ = 16} {m₂ = 4096} (h .shape .order-most) (h .few))
-
-start-values-requires : tie.Need-start-values-requires
-start-values-requires c κs =
-    let s = c .before .before .before .before .before .before .before .before .before .before .before .before .before .before .before .before .before .before .before .before .before .before .before .before .before .before .before .before .before .before .before .before in
-    let h = s .pre in
-    let a = s .args in
-    rw (c .before .before .before .before .before .before .before .before .before .before .before .before .before .before .before .fill-axes .kept .1 .1 .1 .1 .1 .1 .0 ∙ h .factors) (axis-side (a .cell .dimension) (a .cell .order) (a .cell .rows) (h .shape .dimension-least))
-
-fill-values-requires : tie.Need-fill-values-requires
-fill-values-requires c κs =
-    let h = c .before .before .before .before .before .before .before .before .before .before .before .before .before .before .before .before .before .before .before .before .before .before .before .before .before .before .before .before .before .before .before .before .before .before .before .before .before .pre in
-    let call = c .before .before .before .before .before .before .before .before .before .before .before .before .before .before .before .before .before .before .before .before .fill-axes in
-    (h .shape, h .few, c .before .before .before .before .start-values .kept .1 .0 ∙ call .kept .1 .1 .1 .1 .1 .1 .0 ∙ h .factors, call .kept .1 .1 .1 .1 .0 ∙ h .values)
+fill-started-requires : tie.Need-fill-started-requires
+fill-started-requires c κs =
+    let d = c .before .before .before .before .before .before .before .before .before .before .before .before .before .before .before .before in
+    let h = d .before .before .before .before .before .before .before .before .before .before .before .before .before .before .before .before .before .pre in
+    let factors = d .fill-axes .kept .1 .1 .1 .1 .1 .1 .0 ∙ h .factors in
+    (h .shape, h .few, h .shape .dimension-least, factors, factors, d .fill-axes .kept .1 .1 .1 .1 .0 ∙ h .values)
 
 same-length : tie.Need-same-length
 same-length c = search needs
@@ -63,7 +54,7 @@ same-length-2 : tie.Need-same-length-2
 same-length-2 c = search needs
 
 same-length-3 : tie.Need-same-length-3
-same-length-3 c = c .before .before .before .before .before .before .before .before .before .before .before .fill-gradients .kept .1 .1 .1 .1 .0 ∙ c .before .before .before .before .before .before .before .before .before .before .before .before .before .before .before .before .before .before .before .before .before .before .before .fill-axes .kept .1 .1 .1 .1 .1 .0
+same-length-3 c = c .before .before .before .before .before .before .before .fill-gradients .kept .1 .1 .1 .1 .0 ∙ c .before .before .before .before .before .before .before .before .before .before .before .before .before .before .before .before .before .before .before .fill-axes .kept .1 .1 .1 .1 .1 .0
 
 same-length-4 : tie.Need-same-length-4
 same-length-4 c = search needs
@@ -73,13 +64,15 @@ same-length-5 c = search needs
 
 returns : tie.Need-returns
 returns c =
-    let s = c .before .before .before .before .before .before .before .before .before .before .before .before .before .before .before .before .before .before .before .before .before .before .before .before .before .before .before .before .before .before .before .before .before .before .before .before .before .before .before .before in
+    let d = c .before .before .before .before .before .before .before .before .before .before .before .before .before .before .before .before .before .before .before in
+    let s = d .before .before .before .before .before .before .before .before .before .before .before .before .before .before .before .before .before in
     let h = s .pre in
     let a = s .args in
-    let call = c .before .before .before .before .before .before .before .before .before .before .before .before .before .before .before .before .before .before .before .before .before .before .before .fill-axes in
-    memory-right (a .cell .dimension) (a .cell .order) (a .cell .rows) (a .cell .length) (a .with-gradients) (a .centre .now) (a .node-polynomials .now) (a .points .now) (h .shape .order-least) (h .shape .dimension-least) _ _ _ _ _ _ (a .slopes .now) _
-    (c .before .before .before .before .before .before .before .before .before .before .before .before .before .before .before .before .before .before .before .before .before .before .before .before .before .before .before .before .before .before .before .scale-points .ensures) (call .ensures .0) (h .slopes) (call .ensures .1) (call .kept .1 .1 .1 .1 .1 .0 ∙ h .gradients) (c .before .before .before .before .before .before .before .before .before .before .before .fill-gradients .ensures)
-    (c .before .before .before .before .before .before .before .start-values .ensures) (c .before .before .fill-values .ensures)
+    let call = d .fill-axes in
+    memory-right (a .cell .dimension) (a .cell .order) (a .cell .rows) (a .node-polynomials .now) (coordinate (a .cell .rows) (a .cell .side) (a .centre .now) (a .points .now))
+    (h .shape .order-least) (a .cell .side) (a .with-gradients) (h .shape .dimension-least) _ _ _ _ _ (a .slopes .now) _
+    (d .before .before .before .before .before .before .before .before .scale-points .ensures) (call .ensures .0) (h .slopes) (call .ensures .1) (call .kept .1 .1 .1 .1 .1 .0 ∙ h .gradients)
+    (c .before .before .before .before .before .before .before .fill-gradients .ensures) (c .before .before .fill-started .ensures)
 
 pub fill-coefficients-spec : {M : Type 1} → statement M
 fill-coefficients-spec =
@@ -88,9 +81,7 @@ fill-coefficients-spec =
     scale-points-requires
     fill-axes-requires
     fill-gradients-requires
-    mul-start-values
-    start-values-requires
-    fill-values-requires
+    fill-started-requires
     same-length
     same-length-2
     same-length-3

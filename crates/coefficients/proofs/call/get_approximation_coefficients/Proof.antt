@@ -1,7 +1,7 @@
 -- `coefficients::call::get_approximation_coefficients` meets its contract: refused, or filled. Assumes nothing.
 use borrow.Author.Needs.{needs}
 use mathlib.Core.Path.{sym, _∙_}
-use Rattle.coefficients.proofs.Calls.{number-taken, ready, coefficients-refused, coefficients-done}
+use Rattle.coefficients.proofs.Calls.{number-taken, admitted, coefficients-refused, coefficients-done}
 use Rattle.coefficients.proofs.call.get_approximation_coefficients.Statement.{statement}
 use Rattle.coefficients.proofs.call.get_approximation_coefficients.Tie as tie
 
@@ -14,13 +14,13 @@ same-length c = search needs
 returns : tie.Need-returns
 returns c =
     let a = c .before .before .before .before .before .before .before .before .before .before .args in
-    coefficients-refused (a .cell .dimension) (a .cell .order) (a .cell .rows) (a .cell .length) (a .with-gradients) (a .centre .now) (a .node-polynomials .now) (a .points .now) (a .values .now) (a .gradients .now) (a .factors .now) (a .slopes .now) _ (c .before .coefficients-number .ensures) (c .if1 .taken)
+    coefficients-refused (a .cell .dimension) (a .cell .order) (a .cell .rows) (a .cell .side) (a .with-gradients) (a .centre .now) (a .node-polynomials .now) (a .points .now) (a .values .now) (a .gradients .now) (a .factors .now) (a .slopes .now) _ (c .before .coefficients-number .ensures) (c .if1 .taken)
 
 fill-coefficients-requires : tie.Need-fill-coefficients-requires
 fill-coefficients-requires c κs =
     let a = c .before .before .before .before .before .before .before .before .before .before .before .before .before .before .before .args in
-    let h = number-taken (a .cell .dimension) (a .cell .order) (a .cell .rows) (a .cell .length) (a .centre .now) (a .points .now) _ (sym (c .before .before .before .before .before .before .coefficients-number .ensures) ∙ c .before .before .before .before .before .if1 .left) in
-    ready (a .cell .dimension) (a .cell .order) (a .cell .rows) (a .with-gradients) _ _ _ _ _ _ _ (h .0) (h .1) (h .2)
+    let h = number-taken (a .cell .dimension) (a .cell .order) (a .cell .rows) (a .cell .side) (a .centre .now) (a .points .now) _ (sym (c .before .before .before .before .before .before .coefficients-number .ensures) ∙ c .before .before .before .before .before .if1 .left) in
+    admitted (a .cell .dimension) (a .cell .order) (a .cell .rows) (a .with-gradients) _ (h .0) (h .1) (h .2)
 
 same-length-2 : tie.Need-same-length-2
 same-length-2 c = search needs
@@ -40,7 +40,7 @@ same-length-6 c = search needs
 returns-2 : tie.Need-returns-2
 returns-2 c =
     let a = c .before .before .before .before .before .before .before .before .before .before .before .before .before .before .before .before .before .before .before .before .before .before .before .before .before .before .args in
-    coefficients-done (a .cell .dimension) (a .cell .order) (a .cell .rows) (a .cell .length) (a .with-gradients) (a .centre .now) (a .node-polynomials .now) (a .points .now) (a .values .now) (a .gradients .now) (a .factors .now) (a .slopes .now) _ (c .before .before .before .before .before .before .before .before .before .before .before .before .before .before .before .before .before .coefficients-number .ensures) _ (c .before .before .before .before .before .before .before .before .before .before .before .before .before .before .before .before .if1 .left) (c .before .before .before .before .before .before .before .before .before .before .fill-coefficients .ensures)
+    coefficients-done (a .cell .dimension) (a .cell .order) (a .cell .rows) (a .cell .side) (a .with-gradients) (a .centre .now) (a .node-polynomials .now) (a .points .now) (a .values .now) (a .gradients .now) (a .factors .now) (a .slopes .now) _ (c .before .before .before .before .before .before .before .before .before .before .before .before .before .before .before .before .before .coefficients-number .ensures) _ (c .before .before .before .before .before .before .before .before .before .before .before .before .before .before .before .before .if1 .left) (c .before .before .before .before .before .before .before .before .before .before .fill-coefficients .ensures)
 
 pub get-approximation-coefficients-spec : {M : Type 1} → statement M
 get-approximation-coefficients-spec =

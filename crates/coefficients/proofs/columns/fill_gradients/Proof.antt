@@ -1,6 +1,6 @@
 -- `coefficients::columns::fill_gradients` meets its contract: filled, or left as they were. Assumes nothing.
-use borrow.Author.Needs.{needs}
 use Rattle.axes.proofs.Stretches.{wanted-yes, wanted-no}
+use borrow.Author.Needs.{needs}
 use Rattle.coefficients.proofs.columns.fill_gradients.Statement.{statement}
 use Rattle.coefficients.proofs.columns.fill_gradients.Tie as tie
 

@@ -12,13 +12,13 @@ use Rattle.coefficients.proofs.columns.multiply_two.Statement.{statemen
 use Rattle.coefficients.proofs.columns.multiply_two.Tie as tie
 
 abbrev Inv-loop : tie.InvT-loop
-Inv-loop rows start second column₀ i₀ column i = Filling 0 rows (λ j. times (getD start j nan) (getD second j nan)) column₀ column i
+Inv-loop rows first second column₀ i₀ column i = Filling 0 rows (λ j. times (getD first j nan) (getD second j nan)) column₀ column i
 
 abbrev μ-loop : tie.MeasureT-loop
-μ-loop rows start second column₀ i₀ column i = rows - i
+μ-loop rows first second column₀ i₀ column i = rows - i
 
 loop-holds : tie.Need-loop-holds Inv-loop μ-loop
-loop-holds c = let a = c .args in filling-none 0 (a .rows) (λ j. times (getD (a .start .now) j nan) (getD (a .second .now) j nan)) _
+loop-holds c = let a = c .args in filling-none 0 (a .rows) (λ j. times (getD (a .first .now) j nan) (getD (a .second .now) j nan)) _
 
 mul-column : tie.Need-mul-column Inv-loop μ-loop
 mul-column c = search needs
@@ -48,7 +48,7 @@ loop-again : tie.Need-loop-again Inv-loop μ-loop
 loop-again c =
     let s = c .before .before .before .before in
     let a = s .args in
-    filling-more 0 (a .rows) (λ j. times (getD (a .start .now) j nan) (getD (a .second .now) j nan)) _ _ _ _ nan _ (c .before .before .before .loop .inv) (c .before .before .loop-test .taken) (omega (arith, s .pre .2)) (sym (zero-add _)) refl
+    filling-more 0 (a .rows) (λ j. times (getD (a .first .now) j nan) (getD (a .second .now) j nan)) _ _ _ _ nan _ (c .before .before .before .loop .inv) (c .before .before .loop-test .taken) (omega (arith, s .pre .2)) (sym (zero-add _)) refl
 
 same-length : tie.Need-same-length Inv-loop μ-loop
 same-length c = c .before .loop .inv .long
@@ -57,7 +57,7 @@ returns : tie.Need-returns Inv-loop μ-loop
 returns c =
     let s = c .before .before in
     let a = s .args in
-    filling-done 0 (a .rows) (λ j. times (getD (a .start .now) j nan) (getD (a .second .now) j nan)) _ _ _ (c .before .loop .inv) (c .loop-test .left) ∙ fill-all (a .rows) (λ j. times (getD (a .start .now) j nan) (getD (a .second .now) j nan)) _ (s .pre .2)
+    filling-done 0 (a .rows) (λ j. times (getD (a .first .now) j nan) (getD (a .second .now) j nan)) _ _ _ (c .before .loop .inv) (c .loop-test .left) ∙ fill-all (a .rows) (λ j. times (getD (a .first .now) j nan) (getD (a .second .now) j nan)) _ (s .pre .2)
 
 pub multiply-two-spec : {M : Type 1} → statement M
 multiply-two-spec =

@@ -1,0 +1,298 @@
+/* Makes one call so many times: `beside SIDE CALL SIZE TIMES`, where SIDE is `ours` or `plain`, and calls and sizes are numbered as
+   bench/src/measures.rs has them. `beside check` makes every call on both sides and compares all that they write. */
+#include "bbfmm.h"
+#include "plain.h"
+
+int printf(const char *format, ...);
+int strcmp(const char *left, const char *right);
+int atoi(const char *word);
+int memcmp(const void *left, const void *right, size_t bytes);
+void *malloc(size_t bytes);
+void *calloc(size_t count, size_t bytes);
+
+enum { CALLS = 18, SIZES = 3 };
+
+static const size_t DIMENSIONS[SIZES] = {1, 2, 3};
+static const size_t ORDERS[SIZES] = {2, 8, 16};
+static const size_t COUNTS[SIZES] = {16, 128, 1024};
+static const size_t MANY_POINTS[SIZES] = {16, 256, 4096};
+static const size_t CELL_POINTS[SIZES] = {1, 64, 4096};
+static const int32_t VECTORS[SIZES][3] = {{-2, 0, 0}, {0, -2, 0}, {0, -2, 1}};
+
+/* What the calls are given, and what they write: the results of one side stand in one stretch, so that two sides can be compared. */
+static double *given;
+static double *nodes;
+static double *polynomials;
+static double *samples;
+static double *values;
+static uint8_t *mask;
+static double *written;
+static uint16_t *table;
+static size_t answer[4];
+static int32_t vector[3];
+static size_t written_count;
+static size_t table_count;
+
+static size_t power(size_t base, size_t exponent)
+{
+    return exponent == 0 ? 1 : base * power(base, exponent - 1);
+}
+
+/* Floats between -1 and 1, in no order; nodes and polynomials there; a smooth block; values that fall; a mask. */
+static void make(size_t call, size_t size)
+{
+    size_t order = ORDERS[size];
+    size_t count = COUNTS[size];
+    written_count = call == 14 ? 4 * power(order, 3) * 4096 + 200000 : call == 13 ? power(order, 3) * 4096 + 200000 : 2200000;
+    table_count = 8192;
+    given = malloc(16384 * sizeof *given);
+    nodes = malloc(16 * sizeof *nodes);
+    polynomials = malloc(256 * sizeof *polynomials);
+    samples = malloc(count * count * sizeof *samples);
+    values = malloc(count * sizeof *values);
+    mask = malloc(count);
+    written = calloc(written_count, sizeof *written);
+    table = calloc(table_count, sizeof *table);
+    for (size_t k = 0; k < 16384; k++) {
+        given[k] = (double)(k * 7919 % 10007) / 5003.5 - 1;
+    }
+    bbfmm_generate_chebyshev_nodes(order, nodes, order);
+    bbfmm_evaluate_chebyshev_polynomials(order, order, nodes, order, false, polynomials, order * order, 0, 0);
+    for (size_t k = 0; k < count * count; k++) {
+        samples[k] = 1 / (1.5 + (double)(k / count) / (double)count - (double)(k % count) / (double)count);
+    }
+    for (size_t k = 0; k < count; k++) {
+        values[k] = 1 / (double)(k + 1);
+        mask[k] = k % 3 != 0;
+    }
+}
+
+static void transfer(bool ours, size_t size, bool transpose)
+{
+    size_t d = DIMENSIONS[size];
+    size_t p = ORDERS[size];
+    size_t n = power(p, d);
+    double *first = written;
+    double *second = written + n;
+    if (ours) {
+        bbfmm_apply_cheb_tensor_transfer(d, p, 0, transpose, given, n, given, 2 * p * p, first, n, second, n);
+    } else {
+        plain_apply_cheb_tensor_transfer(d, p, 0, transpose, given, given, first, second);
+    }
+}
+
+static void polynomials_at(bool ours, size_t size, bool with_derivatives)
+{
+    size_t p = ORDERS[size];
+    size_t rows = MANY_POINTS[size];
+    double *tn = written;
+    double *dtn = written + p * rows;
+    if (ours) {
+        bbfmm_evaluate_chebyshev_polynomials(
+            p, rows, given, rows, with_derivatives, tn, p * rows, dtn, with_derivatives ? p * rows : 0);
+    } else {
+        plain_evaluate_chebyshev_polynomials(p, rows, given, with_derivatives, tn, dtn);
+    }
+}
+
+/* The cell lies about the origin and has side 2, so that scaling leaves the points as they are, call after call. */
+static void coefficients(bool ours, size_t size, bool with_gradients)
+{
+    static const double centre[3] = {0, 0, 0};
+    size_t d = DIMENSIONS[size];
+    size_t p = ORDERS[size];
+    size_t rows = CELL_POINTS[size];
+    size_t n = power(p, d) * rows;
+    size_t axes = d * p * rows;
+    double *factors = written;
+    double *slopes = factors + axes;
+    double *of_values = slopes + (with_gradients ? axes : 0);
+    double *gradients = of_values + n;
+    if (ours) {
+        bbfmm_get_approximation_coefficients(
+            d, p, 2, rows, with_gradients, centre, d, polynomials, p * p, given, d * rows, of_values, n, gradients,
+            with_gradients ? d * n : 0, factors, axes, slopes, with_gradients ? axes : 0);
+    } else {
+        plain_get_approximation_coefficients(
+            d, p, 2, rows, with_gradients, centre, polynomials, given, of_values, gradients, factors, slopes);
+    }
+}
+
+static void permutation(bool ours, size_t d, size_t p, size_t number, bool is_inverse, uint16_t *to)
+{
+    size_t n = power(p, d);
+    if (ours) {
+        (is_inverse ? bbfmm_inverse_permutation : bbfmm_combined_permutation)(d, p, number, to, n);
+    } else {
+        (is_inverse ? plain_inverse_permutation : plain_combined_permutation)(d, p, number, to);
+    }
+}
+
+static void look_up(bool ours, size_t d, int32_t x, int32_t y, int32_t z)
+{
+    if (ours) {
+        bbfmm_look_up(d, x, y, z, answer, 4);
+    } else {
+        plain_look_up(d, x, y, z, answer);
+    }
+}
+
+static void reference(bool ours, size_t d, size_t number)
+{
+    if (ours) {
+        bbfmm_reference_vector(d, number, vector, 3);
+    } else {
+        plain_reference_vector(d, number, vector);
+    }
+}
+
+/* The references, every vector looked up, and both tables of every case. */
+static void turn(bool ours, size_t size)
+{
+    static const size_t CASES[SIZES] = {2, 8, 48};
+    static const size_t REFERENCES[SIZES] = {2, 7, 16};
+    size_t d = DIMENSIONS[size];
+    size_t p = ORDERS[size];
+    for (size_t number = 0; number < REFERENCES[size]; number++) {
+        reference(ours, d, number);
+    }
+    for (size_t k = 0; k < power(7, d); k++) {
+        look_up(ours, d, (int32_t)(k % 7) - 3, d > 1 ? (int32_t)(k / 7 % 7) - 3 : 0, d > 2 ? (int32_t)(k / 49) - 3 : 0);
+    }
+    for (size_t number = 0; number < CASES[size]; number++) {
+        permutation(ours, d, p, number, false, table);
+        permutation(ours, d, p, number, true, table + 4096);
+    }
+}
+
+static void points(bool ours, size_t size, bool are_sources)
+{
+    size_t d = DIMENSIONS[size];
+    size_t p = ORDERS[size];
+    size_t n = d * power(p, d);
+    if (ours && are_sources) {
+        bbfmm_generate_chebyshev_source_points(d, p, 2, 1, nodes, p, written, n);
+    } else if (ours) {
+        bbfmm_generate_chebyshev_target_points(d, p, 2, nodes, p, written, n);
+    } else if (are_sources) {
+        plain_generate_chebyshev_source_points(d, p, 2, 1, nodes, written);
+    } else {
+        plain_generate_chebyshev_target_points(d, p, 2, nodes, written);
+    }
+}
+
+static void cross(bool ours, size_t size)
+{
+    size_t n = COUNTS[size];
+    double *u = written;
+    double *v = u + n * n;
+    double *row = v + n * n;
+    double *column = row + n;
+    double *estimate = column + n;
+    if (ours) {
+        bbfmm_aca_partial_pivoting(
+            n, n, samples, n * n, 1e-6, u, n * n, v, n * n, table, n, table + 4096, n, row, n, column, n, answer, 3, estimate, 1);
+    } else {
+        plain_aca_partial_pivoting(n, n, samples, 1e-6, u, v, table, table + 4096, row, column, answer, estimate);
+    }
+}
+
+static void choose(bool ours, size_t size, bool is_cutoff)
+{
+    size_t n = COUNTS[size];
+    if (ours && is_cutoff) {
+        bbfmm_calculate_singular_values_cutoff(values, n, 0.01, answer, 1);
+    } else if (ours) {
+        bbfmm_argmax_masked(given, n, mask, n, answer, 1);
+    } else if (is_cutoff) {
+        answer[0] = plain_calculate_singular_values_cutoff(values, n, 0.01);
+    } else {
+        answer[0] = plain_argmax_masked(given, mask, n);
+    }
+}
+
+static void operators(bool ours, size_t size)
+{
+    size_t p = ORDERS[size];
+    if (ours) {
+        bbfmm_get_m2m_transfer_operators(p, nodes, p, polynomials, p * p, written, 2 * p * p);
+    } else {
+        plain_get_m2m_transfer_operators(p, nodes, polynomials, written);
+    }
+}
+
+static void of_nodes(bool ours, size_t size)
+{
+    if (ours) {
+        bbfmm_generate_chebyshev_nodes(ORDERS[size], written, ORDERS[size]);
+    } else {
+        plain_generate_chebyshev_nodes(ORDERS[size], written);
+    }
+}
+
+static void once(bool ours, size_t call, size_t size)
+{
+    size_t d = DIMENSIONS[size];
+    const int32_t *v = VECTORS[size];
+    switch (call) {
+    case 0: of_nodes(ours, size); break;
+    case 1: polynomials_at(ours, size, false); break;
+    case 2: polynomials_at(ours, size, true); break;
+    case 3: operators(ours, size); break;
+    case 4: transfer(ours, size, false); break;
+    case 5: transfer(ours, size, true); break;
+    case 6: look_up(ours, d, v[0], v[1], v[2]); break;
+    case 7: reference(ours, d, 1); break;
+    case 8: permutation(ours, d, ORDERS[size], 1, false, table); break;
+    case 9: permutation(ours, d, ORDERS[size], 1, true, table); break;
+    case 10: turn(ours, size); break;
+    case 11: points(ours, size, false); break;
+    case 12: points(ours, size, true); break;
+    case 13: coefficients(ours, size, false); break;
+    case 14: coefficients(ours, size, true); break;
+    case 15: choose(ours, size, false); break;
+    case 16: choose(ours, size, true); break;
+    default: cross(ours, size); break;
+    }
+}
+
+static bool is_alike(size_t call, size_t size)
+{
+    make(call, size);
+    once(true, call, size);
+    double *ours_written = written;
+    uint16_t *ours_table = table;
+    size_t ours_answer[4] = {answer[0], answer[1], answer[2], answer[3]};
+    int32_t ours_vector[3] = {vector[0], vector[1], vector[2]};
+    make(call, size);
+    once(false, call, size);
+    return memcmp(ours_written, written, written_count * sizeof *written) == 0 && memcmp(ours_table, table, table_count * sizeof *table) == 0 &&
+           memcmp(ours_answer, answer, sizeof answer) == 0 && memcmp(ours_vector, vector, sizeof vector) == 0;
+}
+
+int main(int count, char **words)
+{
+    if (count == 2 && strcmp(words[1], "check") == 0) {
+        int faults = 0;
+        for (size_t call = 0; call < CALLS; call++) {
+            for (size_t size = 0; size < SIZES; size++) {
+                if (!is_alike(call, size)) {
+                    printf("beside: call %zu, size %zu: plain C writes something else\n", call, size);
+                    faults++;
+                }
+            }
+        }
+        printf("beside: %d of %d differ\n", faults, CALLS * SIZES);
+        return faults != 0;
+    }
+    if (count != 5) {
+        return 2;
+    }
+    size_t call = (size_t)atoi(words[2]);
+    size_t size = (size_t)atoi(words[3]);
+    make(call, size);
+    for (int times = atoi(words[4]); times > 0; times--) {
+        once(strcmp(words[1], "ours") == 0, call, size);
+    }
+    return 0;
+}

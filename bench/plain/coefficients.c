@@ -1,0 +1,101 @@
+/* Coefficients: S and S' of each axis, and columns that are their products. */
+#include "plain.h"
+
+/* The sums of a node's column become S, or S'. */
+static void fill_axis(
+    size_t order, size_t rows, const double *restrict tn, const double *restrict node_polynomials, bool is_slope, double side,
+    double *restrict out)
+{
+    double share = 2 / (double)order;
+    double per_side = 2 / side;
+    for (size_t node = 0; node < order; node++) {
+        double *column = out + node * rows;
+        for (size_t i = 0; i < rows; i++) {
+            column[i] = 0;
+        }
+        for (size_t k = 0; k < order; k++) {
+            double t = node_polynomials[k * order + node];
+            for (size_t i = 0; i < rows; i++) {
+                column[i] += tn[k * rows + i] * t;
+            }
+        }
+        for (size_t i = 0; i < rows; i++) {
+            column[i] = is_slope ? (column[i] * share) * per_side : (column[i] * 2 - 1) / (double)order;
+        }
+    }
+}
+
+/* The column of one node: the product of one column an axis, the start's first. */
+static void fill_column(size_t dimension, size_t rows, const double *const *from, double *restrict column)
+{
+    const double *a = from[0];
+    if (dimension == 1) {
+        for (size_t i = 0; i < rows; i++) {
+            column[i] = a[i];
+        }
+        return;
+    }
+    const double *b = from[1];
+    if (dimension == 2) {
+        for (size_t i = 0; i < rows; i++) {
+            column[i] = a[i] * b[i];
+        }
+        return;
+    }
+    const double *c = from[2];
+    for (size_t i = 0; i < rows; i++) {
+        column[i] = (a[i] * b[i]) * c[i];
+    }
+}
+
+/* The columns of all nodes, whose products start with axis `start`, read from `starts`. */
+static void fill_columns(
+    size_t dimension, size_t order, size_t rows, size_t start, const double *starts, const double *factors, double *restrict out)
+{
+    size_t index[3] = {0, 0, 0};
+    for (;;) {
+        const double *from[3];
+        size_t used = 1;
+        for (size_t axis = 0; axis < dimension; axis++) {
+            size_t at = (axis * order + index[axis]) * rows;
+            if (axis == start) {
+                from[0] = starts + at;
+            } else {
+                from[used++] = factors + at;
+            }
+        }
+        fill_column(dimension, rows, from, out);
+        out += rows;
+        size_t axis = dimension;
+        while (axis > 0 && ++index[axis - 1] == order) {
+            index[--axis] = 0;
+        }
+        if (axis == 0) {
+            return;
+        }
+    }
+}
+
+void plain_get_approximation_coefficients(
+    size_t dimension, size_t order, double side, size_t rows, bool with_gradients, const double *restrict centre,
+    const double *restrict node_polynomials, double *restrict points, double *restrict values, double *restrict gradients,
+    double *restrict factors, double *restrict slopes)
+{
+    size_t nodes = 1;
+    for (size_t axis = 0; axis < dimension; axis++) {
+        double *x = points + axis * rows;
+        nodes *= order;
+        for (size_t i = 0; i < rows; i++) {
+            x[i] = (x[i] - centre[axis]) / (side * 0.5);
+        }
+        plain_evaluate_chebyshev_polynomials(order, rows, x, with_gradients, values, gradients);
+        fill_axis(order, rows, values, node_polynomials, false, side, factors + axis * order * rows);
+        if (with_gradients) {
+            fill_axis(order, rows, gradients, node_polynomials, true, side, slopes + axis * order * rows);
+        }
+    }
+    fill_columns(dimension, order, rows, 0, factors, factors, values);
+    for (size_t axis = 0; with_gradients && axis < dimension; axis++) {
+        fill_columns(dimension, order, rows, axis, slopes, factors, gradients + axis * nodes * rows);
+    }
+}

@@ -1,0 +1,48 @@
+/* Polynomials, derivatives and the operators made of them. */
+#include "plain.h"
+
+void plain_evaluate_chebyshev_polynomials(
+    size_t order, size_t rows, const double *restrict points, bool with_derivatives, double *restrict tn, double *restrict dtn)
+{
+    for (size_t j = 0; j < order; j++) {
+        double *t = tn + j * rows;
+        for (size_t i = 0; i < rows; i++) {
+            t[i] = j == 0 ? 1 : j == 1 ? points[i] : (2 * points[i]) * t[i - rows] - t[i - 2 * rows];
+        }
+    }
+    for (size_t j = 0; with_derivatives && j < order; j++) {
+        const double *t = tn + j * rows;
+        double *d = dtn + j * rows;
+        for (size_t i = 0; i < rows; i++) {
+            d[i] = j == 0 ? 0 : j == 1 ? 1 : ((2 * t[i - rows]) + ((2 * points[i]) * d[i - rows])) - d[i - 2 * rows];
+        }
+    }
+}
+
+void plain_get_m2m_transfer_operators(
+    size_t order, const double *restrict nodes, const double *restrict node_polynomials, double *restrict operators)
+{
+    double share = 2 / (double)order;
+    double offset = 1 / (double)order;
+    for (size_t column = 0; column < 2 * order; column++) {
+        double x = (nodes[column % order] + (column < order ? -1.0 : 1.0)) * 0.5;
+        double *out = operators + column * order;
+        double before = 1;
+        double last = x;
+        for (size_t r = 0; r < order; r++) {
+            out[r] = 0;
+        }
+        for (size_t k = 0; k < order; k++) {
+            double t = before;
+            for (size_t r = 0; r < order; r++) {
+                out[r] += node_polynomials[k * order + r] * t;
+            }
+            double next = (2 * x) * last - before;
+            before = last;
+            last = next;
+        }
+        for (size_t r = 0; r < order; r++) {
+            out[r] = out[r] * share - offset;
+        }
+    }
+}

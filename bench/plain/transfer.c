@@ -1,0 +1,40 @@
+/* The tensor transfer: each pass keeps the sums of a column and adds operator columns to them. */
+#include "plain.h"
+
+static void pass(
+    size_t order, size_t width, bool transpose, const double *restrict operator, const double *restrict from, double *restrict to)
+{
+    for (size_t c = 0; c < width; c++) {
+        double sums[16] = {0};
+        for (size_t s = 0; s < order; s++) {
+            double x = from[s + order * c];
+            for (size_t r = 0; r < order; r++) {
+                sums[r] += x * (transpose ? operator[s + order * r] : operator[r + order * s]);
+            }
+        }
+        for (size_t r = 0; r < order; r++) {
+            to[c + width * r] = sums[r];
+        }
+    }
+}
+
+void plain_apply_cheb_tensor_transfer(
+    size_t dimension, size_t order, size_t child, bool transpose, const double *restrict input, const double *restrict operators,
+    double *restrict first, double *restrict second)
+{
+    size_t width = 1;
+    for (size_t axis = 1; axis < dimension; axis++) {
+        width *= order;
+    }
+    for (size_t i = 0; i < width * order; i++) {
+        first[i] = input[i];
+    }
+    double *from = first;
+    double *to = second;
+    for (size_t axis = dimension; axis-- > 0;) {
+        pass(order, width, transpose, operators + (child >> axis & 1) * order * order, from, to);
+        double *swap = from;
+        from = to;
+        to = swap;
+    }
+}

@@ -43,7 +43,7 @@ static void make(size_t call, size_t size)
 {
     size_t order = ORDERS[size];
     size_t count = COUNTS[size];
-    written_count = call == 14 ? 4 * power(order, 3) * 4096 + 200000 : call == 13 ? power(order, 3) * 4096 + 200000 : 2200000;
+    written_count = call == 14 ? 4 * power(order, 3) * 4096 + 500000 : call == 13 ? power(order, 3) * 4096 + 500000 : 2200000;
     table_count = 8192;
     given = malloc(16384 * sizeof *given);
     nodes = malloc(16 * sizeof *nodes);

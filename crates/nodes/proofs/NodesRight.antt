@@ -87,9 +87,12 @@ row-most p u = leb-true _ 136 (and-eq-true-iff (leb (p * (p - 1)) 240) (leb (sta
 pub row-long : (p e : ℕ) (table : List Float) → e ≡ start p + p → start p + p ≤ length table → p ≤ length (take (e - start p) (drop (start p) table))
 row-long p e table end h = omega (arith, part-length (start p) e p table end h)
 
-pub row-right : (p e : ℕ) (table nodes after : List Float) → p ≤ 16 → length nodes ≡ p → table ≡ tabulate 136 entry → e ≡ start p + p →
-    after ≡ stretch 0 p (λ i. getD (take (e - start p) (drop (start p) table)) i nan) nodes → after ≡ tabulate p (node p)
-row-right p e table nodes after u long whole end made =
-    let at : (i : ℕ) → i < p → getD (take (e - start p) (drop (start p) table)) i nan ≡ node p i =
-    λ i h. part-read (start p) e p table i nan end h ∙ rw whole (getD-tabulate 136 entry (start p + i) nan (omega (arith, row-most p u))) in
-    made ∙ fill-all p _ nodes long ∙ tabulate-cong p _ (node p) at
+pub row-copied : (p e : ℕ) (table nodes after : List Float) → length nodes ≡ p → e ≡ start p + p →
+    after ≡ stretch 0 p (λ i. getD (take (e - start p) (drop (start p) table)) i nan) nodes → after ≡ tabulate p (λ i. getD table (start p + i) nan)
+row-copied p e table nodes after long end made =
+    made ∙ fill-all p _ nodes long ∙ tabulate-cong p _ _ (λ i h. part-read (start p) e p table i nan end h)
+
+pub row-right : (p : ℕ) (table after : List Float) → p ≤ 16 → table ≡ tabulate 136 entry →
+    after ≡ tabulate p (λ i. getD table (start p + i) nan) → after ≡ tabulate p (node p)
+row-right p table after u whole made =
+    made ∙ tabulate-cong p _ (node p) (λ i h. rw whole (getD-tabulate 136 entry (start p + i) nan (omega (arith, row-most p u))))

@@ -1,9 +1,10 @@
 // The Chebyshev nodes of the orders 1 to 16, as a constant table: Rattle has no cosine.
 ghost use mathlib.Core.Path.{_≡_};
-ghost use Prim.Native.Nat.{_≤_};
-ghost use lib.ListN.{length};
+ghost use Prim.Native.Nat.{_+_, _≤_};
+ghost use lib.Ieee.{nan};
+ghost use lib.ListN.{length, getD};
 ghost use Rattle.common.specs.Lists.{tabulate};
-ghost use Rattle.nodes.specs.Nodes.{node, nodesNumber, nodesCall};
+ghost use Rattle.nodes.specs.Nodes.{start, node, nodesNumber, nodesCall};
 
 // The nodes of the orders 1 to 16, order after order, each order's rising: order p has the p entries from p * (p - 1) / 2 on.
 const NODES: [f64; 136] = [
@@ -145,15 +146,22 @@ const NODES: [f64; 136] = [
     0.9951847266721969,
 ];
 
-// The row of an order, copied. The table is a local, and read as one stretch, so that it is not copied itself.
+// The row of an order, a stretch of the table.
+fn copy_row(order: usize, table: &[f64], nodes: &mut [f64])
+    requires { ⌜ (1 ≤ order) × (order ≤ 16) × (length (now nodes) ≡ order) × (length (now table) ≡ 136) ⌝ }
+    ensures { λ _. ⌜ now (nodes .exit) ≡ tabulate order (λ i. getD (now (table .entry)) (start order + i) nan) ⌝ }
+{
+    let start = order * (order - 1) / 2;
+    let end = start + order;
+    common::copy_column(order, &table[start..end], 0, nodes);
+}
+
+// The table is lent and not held: as a local it would be copied.
 fn fill_nodes(order: usize, nodes: &mut [f64])
     requires { ⌜ (1 ≤ order) × (order ≤ 16) × (length (now nodes) ≡ order) ⌝ }
     ensures { λ _. ⌜ now (nodes .exit) ≡ tabulate order (node order) ⌝ }
 {
-    let table = NODES;
-    let start = order * (order - 1) / 2;
-    let end = start + order;
-    common::copy_column(order, &table[start..end], 0, nodes);
+    copy_row(order, &NODES, nodes);
 }
 
 fn nodes_number(order: usize, size: usize) -> u8

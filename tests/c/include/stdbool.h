@@ -1,6 +1,9 @@
 /* Stands in for the C library's own, which the kit has not. */
+#ifndef STDBOOL_H
+#define STDBOOL_H
 #ifndef __cplusplus
 #define bool _Bool
 #define true 1
 #define false 0
+#endif
 #endif

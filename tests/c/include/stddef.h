@@ -1,2 +1,5 @@
 /* Stands in for the compiler's own, which the kit has not. */
+#ifndef STDDEF_H
+#define STDDEF_H
 typedef __SIZE_TYPE__ size_t;
+#endif

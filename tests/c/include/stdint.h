@@ -1,4 +1,7 @@
 /* Stands in for the C library's own, which the kit has not. */
+#ifndef STDINT_H
+#define STDINT_H
 typedef __UINT8_TYPE__ uint8_t;
 typedef __UINT16_TYPE__ uint16_t;
 typedef __INT32_TYPE__ int32_t;
+#endif

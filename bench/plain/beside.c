@@ -1,6 +1,5 @@
 /* Makes one call so many times: `beside SIDE CALL SIZE TIMES`, where SIDE is `ours` or `plain`, and calls and sizes are numbered as
    bench/src/measures.rs has them. `beside check` makes every call on both sides and compares all that they write. */
-#include "bbfmm.h"
 #include "plain.h"
 
 int printf(const char *format, ...);
@@ -32,11 +31,6 @@ static size_t answer[4];
 static int32_t vector[3];
 static size_t written_count;
 static size_t table_count;
-
-static size_t power(size_t base, size_t exponent)
-{
-    return exponent == 0 ? 1 : base * power(base, exponent - 1);
-}
 
 /* Floats between -1 and 1, in no order; nodes and polynomials there; a smooth block; values that fall; a mask. */
 static void make(size_t call, size_t size)
@@ -74,11 +68,8 @@ static void transfer(bool ours, size_t size, bool transpose)
     size_t n = power(p, d);
     double *first = written;
     double *second = written + n;
-    if (ours) {
-        bbfmm_apply_cheb_tensor_transfer(d, p, 0, transpose, given, n, given, 2 * p * p, first, n, second, n);
-    } else {
-        plain_apply_cheb_tensor_transfer(d, p, 0, transpose, given, given, first, second);
-    }
+    (ours ? bbfmm_apply_cheb_tensor_transfer : plain_apply_cheb_tensor_transfer)(
+        d, p, 0, transpose, given, n, given, 2 * p * p, first, n, second, n);
 }
 
 static void polynomials_at(bool ours, size_t size, bool with_derivatives)
@@ -87,12 +78,8 @@ static void polynomials_at(bool ours, size_t size, bool with_derivatives)
     size_t rows = MANY_POINTS[size];
     double *tn = written;
     double *dtn = written + p * rows;
-    if (ours) {
-        bbfmm_evaluate_chebyshev_polynomials(
-            p, rows, given, rows, with_derivatives, tn, p * rows, dtn, with_derivatives ? p * rows : 0);
-    } else {
-        plain_evaluate_chebyshev_polynomials(p, rows, given, with_derivatives, tn, dtn);
-    }
+    (ours ? bbfmm_evaluate_chebyshev_polynomials : plain_evaluate_chebyshev_polynomials)(
+                p, rows, given, rows, with_derivatives, tn, p * rows, dtn, with_derivatives ? p * rows : 0);
 }
 
 /* The cell lies about the origin and has side 2, so that scaling leaves the points as they are, call after call. */
@@ -108,42 +95,29 @@ static void coefficients(bool ours, size_t size, bool with_gradients)
     double *slopes = factors + axes;
     double *of_values = slopes + (with_gradients ? axes : 0);
     double *gradients = of_values + n;
-    if (ours) {
-        bbfmm_get_approximation_coefficients(
-            d, p, 2, rows, with_gradients, centre, d, polynomials, p * p, given, d * rows, of_values, n, gradients,
+    (ours ? bbfmm_get_approximation_coefficients : plain_get_approximation_coefficients)(
+                d, p, 2, rows, with_gradients, centre, d, polynomials, p * p, given, d * rows, of_values, n, gradients,
             with_gradients ? d * n : 0, factors, axes, slopes, with_gradients ? axes : 0);
-    } else {
-        plain_get_approximation_coefficients(
-            d, p, 2, rows, with_gradients, centre, polynomials, given, of_values, gradients, factors, slopes);
-    }
 }
 
 static void permutation(bool ours, size_t d, size_t p, size_t number, bool is_inverse, uint16_t *to)
 {
     size_t n = power(p, d);
-    if (ours) {
-        (is_inverse ? bbfmm_inverse_permutation : bbfmm_combined_permutation)(d, p, number, to, n);
+    if (is_inverse) {
+        (ours ? bbfmm_inverse_permutation : plain_inverse_permutation)(d, p, number, to, n);
     } else {
-        (is_inverse ? plain_inverse_permutation : plain_combined_permutation)(d, p, number, to);
+        (ours ? bbfmm_combined_permutation : plain_combined_permutation)(d, p, number, to, n);
     }
 }
 
 static void look_up(bool ours, size_t d, int32_t x, int32_t y, int32_t z)
 {
-    if (ours) {
-        bbfmm_look_up(d, x, y, z, answer, 4);
-    } else {
-        plain_look_up(d, x, y, z, answer);
-    }
+    (ours ? bbfmm_look_up : plain_look_up)(d, x, y, z, answer, 4);
 }
 
 static void reference(bool ours, size_t d, size_t number)
 {
-    if (ours) {
-        bbfmm_reference_vector(d, number, vector, 3);
-    } else {
-        plain_reference_vector(d, number, vector);
-    }
+    (ours ? bbfmm_reference_vector : plain_reference_vector)(d, number, vector, 3);
 }
 
 /* The references, every vector looked up, and both tables of every case. */
@@ -170,14 +144,10 @@ static void points(bool ours, size_t size, bool are_sources)
     size_t d = DIMENSIONS[size];
     size_t p = ORDERS[size];
     size_t n = d * power(p, d);
-    if (ours && are_sources) {
-        bbfmm_generate_chebyshev_source_points(d, p, 2, 1, nodes, p, written, n);
-    } else if (ours) {
-        bbfmm_generate_chebyshev_target_points(d, p, 2, nodes, p, written, n);
-    } else if (are_sources) {
-        plain_generate_chebyshev_source_points(d, p, 2, 1, nodes, written);
+    if (are_sources) {
+        (ours ? bbfmm_generate_chebyshev_source_points : plain_generate_chebyshev_source_points)(d, p, 2, 1, nodes, p, written, n);
     } else {
-        plain_generate_chebyshev_target_points(d, p, 2, nodes, written);
+        (ours ? bbfmm_generate_chebyshev_target_points : plain_generate_chebyshev_target_points)(d, p, 2, nodes, p, written, n);
     }
 }
 
@@ -189,45 +159,30 @@ static void cross(bool ours, size_t size)
     double *row = v + n * n;
     double *column = row + n;
     double *estimate = column + n;
-    if (ours) {
-        bbfmm_aca_partial_pivoting(
-            n, n, samples, n * n, 1e-6, u, n * n, v, n * n, table, n, table + 4096, n, row, n, column, n, answer, 3, estimate, 1);
-    } else {
-        plain_aca_partial_pivoting(n, n, samples, 1e-6, u, v, table, table + 4096, row, column, answer, estimate);
-    }
+    (ours ? bbfmm_aca_partial_pivoting : plain_aca_partial_pivoting)(
+                n, n, samples, n * n, 1e-6, u, n * n, v, n * n, table, n, table + 4096, n, row, n, column, n, answer, 3, estimate, 1);
 }
 
 static void choose(bool ours, size_t size, bool is_cutoff)
 {
     size_t n = COUNTS[size];
-    if (ours && is_cutoff) {
-        bbfmm_calculate_singular_values_cutoff(values, n, 0.01, answer, 1);
-    } else if (ours) {
-        bbfmm_argmax_masked(given, n, mask, n, answer, 1);
-    } else if (is_cutoff) {
-        answer[0] = plain_calculate_singular_values_cutoff(values, n, 0.01);
+    if (is_cutoff) {
+        (ours ? bbfmm_calculate_singular_values_cutoff : plain_calculate_singular_values_cutoff)(values, n, 0.01, answer, 1);
     } else {
-        answer[0] = plain_argmax_masked(given, mask, n);
+        (ours ? bbfmm_argmax_masked : plain_argmax_masked)(given, n, mask, n, answer, 1);
     }
 }
 
 static void operators(bool ours, size_t size)
 {
     size_t p = ORDERS[size];
-    if (ours) {
-        bbfmm_get_m2m_transfer_operators(p, nodes, p, polynomials, p * p, written, 2 * p * p);
-    } else {
-        plain_get_m2m_transfer_operators(p, nodes, polynomials, written);
-    }
+    (ours ? bbfmm_get_m2m_transfer_operators : plain_get_m2m_transfer_operators)(
+        p, nodes, p, polynomials, p * p, written, 2 * p * p);
 }
 
 static void of_nodes(bool ours, size_t size)
 {
-    if (ours) {
-        bbfmm_generate_chebyshev_nodes(ORDERS[size], written, ORDERS[size]);
-    } else {
-        plain_generate_chebyshev_nodes(ORDERS[size], written);
-    }
+    (ours ? bbfmm_generate_chebyshev_nodes : plain_generate_chebyshev_nodes)(ORDERS[size], written, ORDERS[size]);
 }
 
 static void once(bool ours, size_t call, size_t size)

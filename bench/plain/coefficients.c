@@ -76,19 +76,47 @@ static void fill_columns(
     }
 }
 
-void plain_get_approximation_coefficients(
-    size_t dimension, size_t order, double side, size_t rows, bool with_gradients, const double *restrict centre,
-    const double *restrict node_polynomials, double *restrict points, double *restrict values, double *restrict gradients,
-    double *restrict factors, double *restrict slopes)
+static bool are_finite(const double *list, size_t count)
 {
-    size_t nodes = 1;
+    bool are = true;
+    for (size_t i = 0; i < count; i++) {
+        are = are && list[i] - list[i] == 0;
+    }
+    return are;
+}
+
+uint8_t plain_get_approximation_coefficients(
+    size_t dimension, size_t order, double side, size_t rows, bool with_gradients, const double *restrict centre,
+    size_t centre_length, const double *restrict node_polynomials, size_t node_polynomials_length, double *restrict points,
+    size_t points_length, double *restrict values, size_t values_length, double *restrict gradients, size_t gradients_length,
+    double *restrict factors, size_t factors_length, double *restrict slopes, size_t slopes_length)
+{
+    if (of_shape(dimension, order) != 0) {
+        return of_shape(dimension, order);
+    }
+    if (rows > 4096) {
+        return BBFMM_NO_COUNT;
+    }
+    size_t nodes = power(order, dimension);
+    size_t axes = dimension * order * rows;
+    if (centre_length != dimension || node_polynomials_length != order * order || points_length != dimension * rows ||
+        values_length != nodes * rows || gradients_length != (with_gradients ? dimension * nodes * rows : 0) ||
+        factors_length != axes || slopes_length != (with_gradients ? axes : 0)) {
+        return BBFMM_WRONG_LENGTH;
+    }
+    if (!is_side(side)) {
+        return BBFMM_NO_CELL;
+    }
+    if (!are_finite(points, points_length) || !are_finite(centre, centre_length)) {
+        return BBFMM_NOT_FINITE;
+    }
     for (size_t axis = 0; axis < dimension; axis++) {
         double *x = points + axis * rows;
-        nodes *= order;
         for (size_t i = 0; i < rows; i++) {
             x[i] = (x[i] - centre[axis]) / (side * 0.5);
         }
-        plain_evaluate_chebyshev_polynomials(order, rows, x, with_gradients, values, gradients);
+        size_t derived = with_gradients ? order * rows : 0;
+        plain_evaluate_chebyshev_polynomials(order, rows, x, rows, with_gradients, values, order * rows, gradients, derived);
         fill_axis(order, rows, values, node_polynomials, false, side, factors + axis * order * rows);
         if (with_gradients) {
             fill_axis(order, rows, gradients, node_polynomials, true, side, slopes + axis * order * rows);
@@ -98,4 +126,5 @@ void plain_get_approximation_coefficients(
     for (size_t axis = 0; with_gradients && axis < dimension; axis++) {
         fill_columns(dimension, order, rows, axis, slopes, factors, gradients + axis * nodes * rows);
     }
+    return 0;
 }

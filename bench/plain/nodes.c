@@ -38,10 +38,17 @@ static const double NODES[136] = {
     0.9951847266721969,
 };
 
-void plain_generate_chebyshev_nodes(size_t order, double *restrict nodes)
+uint8_t plain_generate_chebyshev_nodes(size_t order, double *restrict nodes, size_t nodes_length)
 {
+    if (of_order(order) != 0) {
+        return of_order(order);
+    }
+    if (nodes_length != order) {
+        return BBFMM_WRONG_LENGTH;
+    }
     const double *row = NODES + order * (order - 1) / 2;
     for (size_t i = 0; i < order; i++) {
         nodes[i] = row[i];
     }
+    return 0;
 }

@@ -1,36 +1,71 @@
-/* Document 01's rules in plain C, over the buffers that our calls are lent: what an engineer would write instead. They test no limits. */
+/* Document 01's rules and limits in plain C, over the buffers that our calls are lent: what an engineer would write instead. Each
+   takes what the call of bbfmm.h with its name takes, and answers the same number. */
 #ifndef PLAIN_H
 #define PLAIN_H
 
-#include <stdbool.h>
-#include <stddef.h>
-#include <stdint.h>
+#include "bbfmm.h"
 
-void plain_generate_chebyshev_nodes(size_t order, double *restrict nodes);
-void plain_evaluate_chebyshev_polynomials(
-    size_t order, size_t rows, const double *restrict points, bool with_derivatives, double *restrict tn, double *restrict dtn);
-void plain_get_m2m_transfer_operators(
-    size_t order, const double *restrict nodes, const double *restrict node_polynomials, double *restrict operators);
-void plain_apply_cheb_tensor_transfer(
-    size_t dimension, size_t order, size_t child, bool transpose, const double *restrict input, const double *restrict operators,
-    double *restrict first, double *restrict second);
-void plain_look_up(size_t dimension, int32_t x, int32_t y, int32_t z, size_t *restrict answer);
-void plain_reference_vector(size_t dimension, size_t number, int32_t *restrict vector);
-void plain_combined_permutation(size_t dimension, size_t order, size_t number, uint16_t *restrict table);
-void plain_inverse_permutation(size_t dimension, size_t order, size_t number, uint16_t *restrict table);
-void plain_generate_chebyshev_target_points(
-    size_t dimension, size_t order, double side, const double *restrict nodes, double *restrict points);
-void plain_generate_chebyshev_source_points(
-    size_t dimension, size_t order, double side, size_t reference, const double *restrict nodes, double *restrict points);
-void plain_get_approximation_coefficients(
+uint8_t plain_look_up(size_t dimension, int32_t x, int32_t y, int32_t z, size_t *restrict answer, size_t answer_length);
+uint8_t plain_reference_vector(size_t dimension, size_t number, int32_t *restrict vector, size_t vector_length);
+uint8_t plain_combined_permutation(size_t dimension, size_t order, size_t number, uint16_t *restrict table, size_t table_length);
+uint8_t plain_inverse_permutation(size_t dimension, size_t order, size_t number, uint16_t *restrict table, size_t table_length);
+uint8_t plain_generate_chebyshev_nodes(size_t order, double *restrict nodes, size_t nodes_length);
+uint8_t plain_evaluate_chebyshev_polynomials(
+    size_t order, size_t rows, const double *restrict points, size_t points_length, bool with_derivatives, double *restrict tn,
+    size_t tn_length, double *restrict dtn, size_t dtn_length);
+uint8_t plain_get_m2m_transfer_operators(
+    size_t order, const double *restrict nodes, size_t nodes_length, const double *restrict node_polynomials,
+    size_t node_polynomials_length, double *restrict operators, size_t operators_length);
+uint8_t plain_apply_cheb_tensor_transfer(
+    size_t dimension, size_t order, size_t child, bool transpose, const double *restrict input, size_t input_length,
+    const double *restrict operators, size_t operators_length, double *restrict first, size_t first_length,
+    double *restrict second, size_t second_length);
+uint8_t plain_generate_chebyshev_target_points(
+    size_t dimension, size_t order, double side, const double *restrict nodes, size_t nodes_length, double *restrict points,
+    size_t points_length);
+uint8_t plain_generate_chebyshev_source_points(
+    size_t dimension, size_t order, double side, size_t reference, const double *restrict nodes, size_t nodes_length,
+    double *restrict points, size_t points_length);
+uint8_t plain_get_approximation_coefficients(
     size_t dimension, size_t order, double side, size_t rows, bool with_gradients, const double *restrict centre,
-    const double *restrict node_polynomials, double *restrict points, double *restrict values, double *restrict gradients,
-    double *restrict factors, double *restrict slopes);
-size_t plain_argmax_masked(const double *restrict entries, const uint8_t *restrict mask, size_t count);
-size_t plain_calculate_singular_values_cutoff(const double *restrict values, size_t count, double epsilon);
-void plain_aca_partial_pivoting(
-    size_t rows, size_t columns, const double *restrict samples, double epsilon, double *restrict u, double *restrict v,
-    uint16_t *restrict row_list, uint16_t *restrict column_list, double *restrict row, double *restrict column,
-    size_t *restrict counts, double *restrict estimate);
+    size_t centre_length, const double *restrict node_polynomials, size_t node_polynomials_length, double *restrict points,
+    size_t points_length, double *restrict values, size_t values_length, double *restrict gradients, size_t gradients_length,
+    double *restrict factors, size_t factors_length, double *restrict slopes, size_t slopes_length);
+uint8_t plain_argmax_masked(
+    const double *restrict entries, size_t entries_length, const uint8_t *restrict mask, size_t mask_length,
+    size_t *restrict place, size_t place_length);
+uint8_t plain_calculate_singular_values_cutoff(
+    const double *restrict values, size_t values_length, double epsilon, size_t *restrict place, size_t place_length);
+uint8_t plain_aca_partial_pivoting(
+    size_t rows, size_t columns, const double *restrict samples, size_t samples_length, double epsilon, double *restrict u,
+    size_t u_length, double *restrict v, size_t v_length, uint16_t *restrict row_list, size_t row_list_length,
+    uint16_t *restrict column_list, size_t column_list_length, double *restrict row, size_t row_length,
+    double *restrict column, size_t column_length, size_t *restrict counts, size_t counts_length, double *restrict estimate,
+    size_t estimate_length);
+
+/* The numbers that an order, and a dimension with an order, bring; 0 is none. An order to the power of a dimension. */
+static inline uint8_t of_order(size_t order)
+{
+    return order < 1 || order > 16 ? BBFMM_NO_ORDER : 0;
+}
+
+static inline uint8_t of_shape(size_t dimension, size_t order)
+{
+    return dimension < 1 || dimension > 3 ? BBFMM_NO_DIMENSION : of_order(order);
+}
+
+static inline bool is_side(double side)
+{
+    return side >= 0x1p-20 && side <= 0x1p30;
+}
+
+static inline size_t power(size_t base, size_t exponent)
+{
+    size_t result = 1;
+    for (size_t i = 0; i < exponent; i++) {
+        result *= base;
+    }
+    return result;
+}
 
 #endif

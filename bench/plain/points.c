@@ -15,10 +15,7 @@ static void fill_column(size_t cycles, size_t order, size_t run, const double *r
 static void fill_points(
     size_t dimension, size_t order, double side, const int32_t *reference, const double *restrict nodes, double *restrict points)
 {
-    size_t rows = 1;
-    for (size_t axis = 0; axis < dimension; axis++) {
-        rows *= order;
-    }
+    size_t rows = power(order, dimension);
     size_t cycles = 1;
     for (size_t axis = 0; axis < dimension; axis++) {
         double values[16];
@@ -30,16 +27,44 @@ static void fill_points(
     }
 }
 
-void plain_generate_chebyshev_target_points(
-    size_t dimension, size_t order, double side, const double *restrict nodes, double *restrict points)
+static uint8_t of_lengths(size_t dimension, size_t order, double side, size_t nodes, size_t points)
 {
-    fill_points(dimension, order, side, 0, nodes, points);
+    if (nodes != order || points != dimension * power(order, dimension)) {
+        return BBFMM_WRONG_LENGTH;
+    }
+    return is_side(side) ? 0 : BBFMM_NO_CELL;
 }
 
-void plain_generate_chebyshev_source_points(
-    size_t dimension, size_t order, double side, size_t reference, const double *restrict nodes, double *restrict points)
+uint8_t plain_generate_chebyshev_target_points(
+    size_t dimension, size_t order, double side, const double *restrict nodes, size_t nodes_length, double *restrict points,
+    size_t points_length)
+{
+    if (of_shape(dimension, order) != 0) {
+        return of_shape(dimension, order);
+    }
+    uint8_t refused = of_lengths(dimension, order, side, nodes_length, points_length);
+    if (refused != 0) {
+        return refused;
+    }
+    fill_points(dimension, order, side, 0, nodes, points);
+    return 0;
+}
+
+uint8_t plain_generate_chebyshev_source_points(
+    size_t dimension, size_t order, double side, size_t reference, const double *restrict nodes, size_t nodes_length,
+    double *restrict points, size_t points_length)
 {
     int32_t vector[3];
-    plain_reference_vector(dimension, reference, vector);
+    if (of_shape(dimension, order) != 0) {
+        return of_shape(dimension, order);
+    }
+    uint8_t refused = plain_reference_vector(dimension, reference, vector, 3);
+    if (refused == 0) {
+        refused = of_lengths(dimension, order, side, nodes_length, points_length);
+    }
+    if (refused != 0) {
+        return refused;
+    }
     fill_points(dimension, order, side, vector, nodes, points);
+    return 0;
 }

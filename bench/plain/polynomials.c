@@ -1,9 +1,19 @@
 /* Polynomials, derivatives and the operators made of them. */
 #include "plain.h"
 
-void plain_evaluate_chebyshev_polynomials(
-    size_t order, size_t rows, const double *restrict points, bool with_derivatives, double *restrict tn, double *restrict dtn)
+uint8_t plain_evaluate_chebyshev_polynomials(
+    size_t order, size_t rows, const double *restrict points, size_t points_length, bool with_derivatives, double *restrict tn,
+    size_t tn_length, double *restrict dtn, size_t dtn_length)
 {
+    if (of_order(order) != 0) {
+        return of_order(order);
+    }
+    if (rows > 4096) {
+        return BBFMM_NO_COUNT;
+    }
+    if (points_length != rows || tn_length != order * rows || dtn_length != (with_derivatives ? order * rows : 0)) {
+        return BBFMM_WRONG_LENGTH;
+    }
     for (size_t j = 0; j < order; j++) {
         double *t = tn + j * rows;
         for (size_t i = 0; i < rows; i++) {
@@ -17,11 +27,19 @@ void plain_evaluate_chebyshev_polynomials(
             d[i] = j == 0 ? 0 : j == 1 ? 1 : ((2 * t[i - rows]) + ((2 * points[i]) * d[i - rows])) - d[i - 2 * rows];
         }
     }
+    return 0;
 }
 
-void plain_get_m2m_transfer_operators(
-    size_t order, const double *restrict nodes, const double *restrict node_polynomials, double *restrict operators)
+uint8_t plain_get_m2m_transfer_operators(
+    size_t order, const double *restrict nodes, size_t nodes_length, const double *restrict node_polynomials,
+    size_t node_polynomials_length, double *restrict operators, size_t operators_length)
 {
+    if (of_order(order) != 0) {
+        return of_order(order);
+    }
+    if (nodes_length != order || node_polynomials_length != order * order || operators_length != 2 * order * order) {
+        return BBFMM_WRONG_LENGTH;
+    }
     double share = 2 / (double)order;
     double offset = 1 / (double)order;
     for (size_t column = 0; column < 2 * order; column++) {
@@ -45,4 +63,5 @@ void plain_get_m2m_transfer_operators(
             out[r] = out[r] * share - offset;
         }
     }
+    return 0;
 }

@@ -18,15 +18,23 @@ static void pass(
     }
 }
 
-void plain_apply_cheb_tensor_transfer(
-    size_t dimension, size_t order, size_t child, bool transpose, const double *restrict input, const double *restrict operators,
-    double *restrict first, double *restrict second)
+uint8_t plain_apply_cheb_tensor_transfer(
+    size_t dimension, size_t order, size_t child, bool transpose, const double *restrict input, size_t input_length,
+    const double *restrict operators, size_t operators_length, double *restrict first, size_t first_length,
+    double *restrict second, size_t second_length)
 {
-    size_t width = 1;
-    for (size_t axis = 1; axis < dimension; axis++) {
-        width *= order;
+    if (of_shape(dimension, order) != 0) {
+        return of_shape(dimension, order);
     }
-    for (size_t i = 0; i < width * order; i++) {
+    if (child >= (size_t)1 << dimension) {
+        return BBFMM_NO_CASE;
+    }
+    size_t width = power(order, dimension - 1);
+    size_t nodes = width * order;
+    if (input_length != nodes || operators_length != 2 * order * order || first_length != nodes || second_length != nodes) {
+        return BBFMM_WRONG_LENGTH;
+    }
+    for (size_t i = 0; i < nodes; i++) {
         first[i] = input[i];
     }
     double *from = first;
@@ -37,4 +45,5 @@ void plain_apply_cheb_tensor_transfer(
         from = to;
         to = swap;
     }
+    return 0;
 }

@@ -34,9 +34,35 @@ static size_t order_of(size_t dimension, const size_t *size, size_t *axes)
     return 2 * axes[0] + (axes[1] > axes[2]);
 }
 
-void plain_look_up(size_t dimension, int32_t x, int32_t y, int32_t z, size_t *restrict answer)
+/* The lowest number that a vector brings. */
+static uint8_t of_vector(size_t dimension, const int32_t *entry)
+{
+    if (dimension < 1 || dimension > 3) {
+        return BBFMM_NO_DIMENSION;
+    }
+    for (size_t axis = 0; axis < dimension; axis++) {
+        if (entry[axis] < -3 || entry[axis] > 3) {
+            return BBFMM_NO_ENTRY;
+        }
+    }
+    for (size_t axis = dimension; axis < 3; axis++) {
+        if (entry[axis] != 0) {
+            return BBFMM_NOT_ZERO;
+        }
+    }
+    return 0;
+}
+
+uint8_t plain_look_up(size_t dimension, int32_t x, int32_t y, int32_t z, size_t *restrict answer, size_t answer_length)
 {
     int32_t entry[3] = {x, y, z};
+    uint8_t refused = of_vector(dimension, entry);
+    if (refused != 0) {
+        return refused;
+    }
+    if (answer_length != 4) {
+        return BBFMM_WRONG_LENGTH;
+    }
     size_t size[3];
     size_t axes[3];
     size_t index = 0;
@@ -60,14 +86,26 @@ void plain_look_up(size_t dimension, int32_t x, int32_t y, int32_t z, size_t *re
     answer[1] = signs * FACTORIALS[dimension] + order;
     answer[2] = reference;
     answer[3] = largest < 2;
+    return 0;
 }
 
-void plain_reference_vector(size_t dimension, size_t number, int32_t *restrict vector)
+uint8_t plain_reference_vector(size_t dimension, size_t number, int32_t *restrict vector, size_t vector_length)
 {
+    static const size_t MANY[4] = {0, 2, 7, 16};
+    if (dimension < 1 || dimension > 3) {
+        return BBFMM_NO_DIMENSION;
+    }
+    if (number >= MANY[dimension]) {
+        return BBFMM_NO_CASE;
+    }
+    if (vector_length != 3) {
+        return BBFMM_WRONG_LENGTH;
+    }
     const int32_t *from = dimension == 3 ? REFERENCES[number] : dimension == 2 ? REFERENCES_2[number] : REFERENCES_2[3 * number];
     for (size_t axis = 0; axis < 3; axis++) {
         vector[axis] = from[axis];
     }
+    return 0;
 }
 
 /* The image of node 0, and how far the image moves with the index on each axis of the reference, of three; absent axes come first. */
@@ -93,8 +131,23 @@ static size_t steps_of(size_t dimension, size_t order, size_t number, size_t *st
     return start;
 }
 
-void plain_combined_permutation(size_t dimension, size_t order, size_t number, uint16_t *restrict table)
+static uint8_t of_table(size_t dimension, size_t order, size_t number, size_t length)
 {
+    if (of_shape(dimension, order) != 0) {
+        return of_shape(dimension, order);
+    }
+    if (number >= ((size_t)1 << dimension) * FACTORIALS[dimension]) {
+        return BBFMM_NO_CASE;
+    }
+    return length == power(order, dimension) ? 0 : BBFMM_WRONG_LENGTH;
+}
+
+uint8_t plain_combined_permutation(size_t dimension, size_t order, size_t number, uint16_t *restrict table, size_t table_length)
+{
+    uint8_t refused = of_table(dimension, order, number, table_length);
+    if (refused != 0) {
+        return refused;
+    }
     size_t step[3];
     size_t count[3];
     size_t start = steps_of(dimension, order, number, step, count);
@@ -105,10 +158,15 @@ void plain_combined_permutation(size_t dimension, size_t order, size_t number, u
             }
         }
     }
+    return 0;
 }
 
-void plain_inverse_permutation(size_t dimension, size_t order, size_t number, uint16_t *restrict table)
+uint8_t plain_inverse_permutation(size_t dimension, size_t order, size_t number, uint16_t *restrict table, size_t table_length)
 {
+    uint8_t refused = of_table(dimension, order, number, table_length);
+    if (refused != 0) {
+        return refused;
+    }
     size_t step[3];
     size_t count[3];
     size_t start = steps_of(dimension, order, number, step, count);
@@ -120,4 +178,5 @@ void plain_inverse_permutation(size_t dimension, size_t order, size_t number, ui
             }
         }
     }
+    return 0;
 }

@@ -2,20 +2,20 @@
 use mathlib.Core.Path.{_≡_, refl, sym, _∙_}
 use mathlib.Core.Bool.{Bool, true, false, cond, _&&_, and-eq-true-iff}
 use mathlib.Core.List.{List}
-use Prim.Native.Nat.{ℕ, zero, suc, _+_, _*_, _-_, _/_, _^_, _<_, _≤_}
+use Prim.Native.Nat.{ℕ, zero, suc, _^_, _<_, _≤_}
 use native.Mathlib.Nat.{not-suc-le-zero}
 use native.Mathlib.Omega.{arith}
-use lib.Dec.{T, ltb, leb}
+use lib.Dec.{T, ltb}
 use lib.IntN.{pos, _+ℤ_, _-ℤ_, _*ℤ_}
 use lib.Signed.{ltZ, ltZ-yes}
 use lib.Ieee.{Float, nan, ofBits}
-use lib.ListN.{length, getD, take, drop}
-use borrow.Author.Tests.{lt-ltb, leb-true}
+use lib.ListN.{length, getD}
+use borrow.Author.Tests.{lt-ltb}
 use Rattle.common.specs.Lists.{tabulate, stretch}
 use Rattle.common.specs.Tests.{each}
-use Rattle.common.proofs.Fill.{getD-tabulate, tabulate-cong, fill-all, part-length, part-read}
+use Rattle.common.proofs.Fill.{getD-tabulate, tabulate-cong, fill-all}
 use Rattle.common.proofs.Tests.{each-at}
-use Rattle.nodes.specs.Nodes.{entry, start, node}
+use Rattle.nodes.specs.Nodes.{entry, node}
 use Rattle.nodes.specs.Rule.{one, gap, margin, enlarged, whole, chebyshev, opposite, place, Node}
 
 -- 1/64 and 2 ^ -48
@@ -72,27 +72,8 @@ all-right = refl
 pub nodes-right : (p i : ℕ) → 1 ≤ p → p ≤ 16 → i < p → Node node p i
 nodes-right = rule-of node all-right
 
--- THE ROWS: a stretch of the table is the row of an order
-
-small : (p : ℕ) → p ≤ 16 → leb (p * (p - 1)) 240 && leb (start p + p) 136 ≡ true
-unfolding each
-small p u = each-at 17 (λ p. leb (p * (p - 1)) 240 && leb (start p + p) 136) refl p (omega arith)
-
-pub start-most : (p : ℕ) → p ≤ 16 → p * (p - 1) ≤ 240
-start-most p u = leb-true _ 240 (and-eq-true-iff (leb (p * (p - 1)) 240) (leb (start p + p) 136) .0 (small p u) .0)
-
-pub row-most : (p : ℕ) → p ≤ 16 → start p + p ≤ 136
-row-most p u = leb-true _ 136 (and-eq-true-iff (leb (p * (p - 1)) 240) (leb (start p + p) 136) .0 (small p u) .1)
-
-pub row-long : (p e : ℕ) (table : List Float) → e ≡ start p + p → start p + p ≤ length table → p ≤ length (take (e - start p) (drop (start p) table))
-row-long p e table end h = omega (arith, part-length (start p) e p table end h)
-
-pub row-copied : (p e : ℕ) (table nodes after : List Float) → length nodes ≡ p → e ≡ start p + p →
-    after ≡ stretch 0 p (λ i. getD (take (e - start p) (drop (start p) table)) i nan) nodes → after ≡ tabulate p (λ i. getD table (start p + i) nan)
-row-copied p e table nodes after long end made =
-    made ∙ fill-all p _ nodes long ∙ tabulate-cong p _ _ (λ i h. part-read (start p) e p table i nan end h)
-
-pub row-right : (p : ℕ) (table after : List Float) → p ≤ 16 → table ≡ tabulate 136 entry →
-    after ≡ tabulate p (λ i. getD table (start p + i) nan) → after ≡ tabulate p (node p)
-row-right p table after u whole made =
-    made ∙ tabulate-cong p _ (node p) (λ i h. rw whole (getD-tabulate 136 entry (start p + i) nan (omega (arith, row-most p u))))
+-- A ROW of the constant table: a call has copied it, and it holds the nodes of its order
+pub row-right : (p k : ℕ) (nodes after : List Float) → p ≡ k → length nodes ≡ p → after ≡ stretch 0 k (λ i. getD (tabulate k (node k)) i nan) nodes →
+    after ≡ tabulate p (node p)
+row-right p k nodes after e long made =
+    rw e (made ∙ fill-all k _ nodes (long ∙ e) ∙ tabulate-cong k _ (node k) (λ i h. getD-tabulate k (node k) i nan h))

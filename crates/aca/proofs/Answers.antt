@@ -10,7 +10,7 @@ use lib.Ieee.{Float}
 use lib.ListN.{length}
 use borrow.Author.Tests.{eqb-true, leb-true}
 use Rattle.common.specs.Floats.{times}
-use Rattle.common.specs.Refusals.{left, mostEntries, answer}
+use Rattle.common.specs.Refusals.{mostEntries, answer}
 use Rattle.common.proofs.Cases.{equal-and}
 use Rattle.common.proofs.Limits.{left-done, left-refused, passed}
 use Rattle.aca_lines.specs.Flags.{allOn}
@@ -90,7 +90,8 @@ module _ (m n : ℕ) (a : List Float) (epsilon : Float) (t : Memory) (number : �
           columns-marked = rw on' marks-none;
         }
 
-    pub finished : (r : Report) (t' : Memory) → Ran (ran a (times epsilon epsilon) t) t r t' → call (told (Done r)) t' ≡ acaCall m n a epsilon t
+    pub finished : (r : Report) (t' : Memory) → Ran (ran a (times epsilon epsilon) t) t r t' →
+        call (told (Done r)) t' ≡ acaCall m n a epsilon t
     unfolding acaCall approximation
     finished r t' h =
         let e' = run (min m n) (blockOf m n a) (times epsilon epsilon) begin (start t) in

@@ -13,7 +13,7 @@ use Rattle.aca_steps.specs.declared.Progress.{Progress}
 use Rattle.aca_steps.specs.declared.Step.{Step}
 use Rattle.aca_steps.specs.declared.Step.the-variants.{More, Stop}
 use Rattle.aca_steps.proofs.Ways.{across, down, term, Ways, by-way, Counts, counts-across, counts-term}
-use Rattle.aca.specs.Runs.{Finish, finish, followed, run, begin, start, approximation}
+use Rattle.aca.specs.Runs.{Finish, followed, run, begin, start, approximation}
 use Rattle.aca.specs.Facts.{Facts, RunFacts, NothingRead}
 
 -- INDUCTION OVER A RUN: Going holds before each step, of how many steps are left, the state and what is found; Done at the end, of
@@ -33,7 +33,10 @@ module _ (b : Block) (tolerance : Float) (Going : ℕ → Progress → Found →
   by-followed n (More s) f rest g = rest s f g
   by-followed n (Stop w s) f rest d = d
 
-  pub by-run : ((n : ℕ) (s : Progress) (f : Found) → Going (suc n) s f → Next n (step b tolerance s f .answer) (step b tolerance s f .found)) →
+  abbrev pub Steps : Type 0
+  Steps = (n : ℕ) (s : Progress) (f : Found) → Going (suc n) s f → Next n (step b tolerance s f .answer) (step b tolerance s f .found)
+
+  pub by-run : Steps →
       ((s : Progress) (f : Found) → Going zero s f → Done usedUp s f) → (n : ℕ) (s : Progress) (f : Found) → Going n s f →
       Ends (run n b tolerance s f)
   unfolding run
@@ -80,14 +83,17 @@ module _ (b : Block) (t : Memory) where
     ways =
         let most : s .rank + 1 ≤ min (b .rows) (b .columns) = omega (arith, g .steps) in
         record {
-          bare = λ h. ended spent (s .rank + 1) (s .rank) s (across b s f) refl (counts-across b s f (s .rank) (g .counts)) most (omega arith)
+          bare = λ h. ended spent (s .rank + 1) (s .rank) s (across b s f) refl
+              (counts-across b s f (s .rank) (g .counts)) most (omega arith)
               (inr (inl refl)) (λ z. absurd (omega (arith, z))) (λ z. absurd (z refl)) (λ z. refl);
-          met = λ h. ended tolerable (s .rank + 1) (s .rank + 1) (term b s f) (stored (down b s f)) refl (counts-term b s f (s .rank) (g .counts)) most (omega arith)
+          met = λ h. ended tolerable (s .rank + 1) (s .rank + 1) (term b s f) (stored (down b s f)) refl
+              (counts-term b s f (s .rank) (g .counts)) most (omega arith)
               (inl refl) (λ z. absurd (omega (arith, z))) (λ z. refl) (λ z. absurd (omega (arith, z)));
           further = λ h. record { counts = counts-term b s f (s .rank) (g .counts); steps = omega (arith, g .steps) };
         }
 
-  run-facts : (tolerance : Float) (n : ℕ) (s : Progress) (f : Found) → Going b n s f → Ends b tolerance (Going b) Done (run n b tolerance s f)
+  run-facts : (tolerance : Float) (n : ℕ) (s : Progress) (f : Found) → Going b n s f →
+      Ends b tolerance (Going b) Done (run n b tolerance s f)
   run-facts tolerance =
       by-run b tolerance (Going b) Done
       (λ n s f g. by-way b tolerance s f _ (ways tolerance n s f g))

@@ -21,19 +21,30 @@ use Rattle.aca.specs.Working.{Begun, ran, Ran}
 
 -- WHAT IS LAID OVER LENT MEMORY
 
-laid-laid : (f f' : Found) (t : Memory) → length (f .us) ≤ length (f' .us) → length (f .vs) ≤ length (f' .vs) → length (f .rows) ≤ length (f' .rows) →
+laid-laid : (f f' : Found) (t : Memory) → length (f .us) ≤ length (f' .us) → length (f .vs) ≤ length (f' .vs) →
+    length (f .rows) ≤ length (f' .rows) →
     length (f .columns) ≤ length (f' .columns) → laid f' (laid f t) ≡ laid f' t
 unfolding laid
 laid-laid f f' t hu hv hr hc =
-    rw
-    (upon-upon (f .us) (f' .us) (t .us) hu, upon-upon (f .vs) (f' .vs) (t .vs) hv, upon-upon (f .rows) (f' .rows) (t .«row-list») hr, upon-upon (f .columns) (f' .columns) (t .«column-list») hc)
+    rw (
+      upon-upon (f .us) (f' .us) (t .us) hu,
+      upon-upon (f .vs) (f' .vs) (t .vs) hv,
+      upon-upon (f .rows) (f' .rows) (t .«row-list») hr,
+      upon-upon (f .columns) (f' .columns) (t .«column-list») hc,
+    )
 
 module _ (b : Block) (r k : ℕ) (f : Found) (t : Memory) (c : Counts b r k f) where
   standing-laid : length (f .column) ≡ b .rows → length (f .row) ≡ b .columns → standing r k (laid f t) ≡ f
   unfolding laid
   standing-laid hm hn =
-      rw
-      (hm, hn, take-upon (k * b .rows) (f .us) (t .us) (c .us-long), take-upon (k * b .columns) (f .vs) (t .vs) (c .vs-long), take-upon r (f .rows) (t .«row-list») (c .rows-long), take-upon k (f .columns) (t .«column-list») (c .columns-long))
+      rw (
+        hm,
+        hn,
+        take-upon (k * b .rows) (f .us) (t .us) (c .us-long),
+        take-upon (k * b .columns) (f .vs) (t .vs) (c .vs-long),
+        take-upon r (f .rows) (t .«row-list») (c .rows-long),
+        take-upon k (f .columns) (t .«column-list») (c .columns-long),
+      )
 
   -- what is found over what was found before it
   laid-over : (r' k' : ℕ) (f' : Found) → Counts b r' k' f' → r ≤ r' → k ≤ k' → laid f' (laid f t) ≡ laid f' t
@@ -202,7 +213,8 @@ module _ (samples : List Float) (tolerance : Float) (t₀ : Memory) where
               let onward : Took block read (s .rank) (More s') (o .found) = rw answer at took in
               let all = alike-both t₀ t t' (g .alike) same in
               let stands : standing (read + 1) (s' .rank) t' ≡ o .found =
-              ap (standing (read + 1) (s' .rank)) (done .memory-is) ∙ standing-laid block (read + 1) (s' .rank) (o .found) t (onward .counts)
+              ap (standing (read + 1) (s' .rank)) (done .memory-is)
+              ∙ standing-laid block (read + 1) (s' .rank) (o .found) t (onward .counts)
               (column-of (o .found) t t' (done .memory-is) ∙ all .column-same) (row-of (o .found) t t' (done .memory-is) ∙ all .row-same) in
               record {
                 within = omega arith;

@@ -7,8 +7,7 @@ use lib.Ieee.{Float}
 use lib.ListN.{length, drop}
 use Rattle.aca_steps.specs.Crosses.{Found, tolerable, spent, usedUp}
 use Rattle.aca_steps.specs.Memories.{Memory, laid}
-use Rattle.aca_steps.specs.declared.Progress.{Progress}
-use Rattle.aca.specs.Runs.{Finish, finish, begin, start, approximation}
+use Rattle.aca.specs.Runs.{finish, begin, start, approximation}
 
 -- of a run that ended for the reason w, with this rank, and found this
 pub record Facts (m n w rank : ℕ) (f : Found) (t : Memory) : Type 0 where

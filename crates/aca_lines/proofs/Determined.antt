@@ -11,7 +11,8 @@ use Rattle.aca_lines.specs.Flags.{isOn, allOn, cleared}
 use Rattle.aca_lines.specs.declared.Pivot.{Pivot}
 use Rattle.aca_lines.specs.Lines.{rowLess, columnLess, multiplied, asColumn, norm, cross}
 
-pick-determined : (entries : List Float) (mask : List ℕ) (r r' : Pivot) → r ≡ pivot entries (counts mask) → r' ≡ pivot entries (counts mask) → r ≡ r'
+pick-determined : (entries : List Float) (mask : List ℕ) (r r' : Pivot) → r ≡ pivot entries (counts mask) →
+    r' ≡ pivot entries (counts mask) → r ≡ r'
 pick-determined entries mask r r' = coincide r r' (pivot entries (counts mask))
 
 -- FLAGS
@@ -26,21 +27,25 @@ module _ (flags : List ℕ) (k : ℕ) where
   clear-determined : (exit exit' : List ℕ) → exit ≡ cleared flags k → exit' ≡ cleared flags k → exit ≡ exit'
   clear-determined exit exit' = coincide exit exit' (cleared flags k)
 
-pick-on-determined : (entries : List Float) (flags : List ℕ) (r r' : Pivot) → r ≡ pivot entries (isOn flags) → r' ≡ pivot entries (isOn flags) → r ≡ r'
+pick-on-determined : (entries : List Float) (flags : List ℕ) (r r' : Pivot) → r ≡ pivot entries (isOn flags) →
+    r' ≡ pivot entries (isOn flags) → r ≡ r'
 pick-on-determined entries flags r r' = coincide r r' (pivot entries (isOn flags))
 
 -- LINES
 
 -- a row of the block, and a column
 module _ (samples u v line exit exit' : List Float) (across at k : ℕ) where
-  read-row-determined : exit ≡ rowLess across (length line) samples u v k at → exit' ≡ rowLess across (length line) samples u v k at → exit ≡ exit'
+  read-row-determined : exit ≡ rowLess across (length line) samples u v k at →
+      exit' ≡ rowLess across (length line) samples u v k at → exit ≡ exit'
   read-row-determined = coincide exit exit' _
 
-  read-column-determined : exit ≡ columnLess (length line) across samples u v k at → exit' ≡ columnLess (length line) across samples u v k at →
+  read-column-determined : exit ≡ columnLess (length line) across samples u v k at →
+      exit' ≡ columnLess (length line) across samples u v k at →
       exit ≡ exit'
   read-column-determined = coincide exit exit' _
 
-multiply-determined : (factor : Float) (line exit exit' : List Float) → exit ≡ multiplied factor line → exit' ≡ multiplied factor line → exit ≡ exit'
+multiply-determined : (factor : Float) (line exit exit' : List Float) → exit ≡ multiplied factor line →
+    exit' ≡ multiplied factor line → exit ≡ exit'
 multiply-determined factor line exit exit' = coincide exit exit' (multiplied factor line)
 
 norm-determined : (column row : List Float) (r r' : Float) → r ≡ norm column row → r' ≡ norm column row → r ≡ r'
@@ -50,5 +55,6 @@ cross-determined : (k : ℕ) (u v column row : List Float) (r r' : Float) → r 
 cross-determined k u v column row r r' = coincide r r' (cross k u v column row)
 
 -- both matrices by one statement: a column, or a row, is laid into its own
-store-determined : (k : ℕ) (line matrix exit exit' : List Float) → exit ≡ asColumn k line matrix → exit' ≡ asColumn k line matrix → exit ≡ exit'
+store-determined : (k : ℕ) (line matrix exit exit' : List Float) → exit ≡ asColumn k line matrix → exit' ≡ asColumn k line matrix →
+    exit ≡ exit'
 store-determined k line matrix exit exit' = coincide exit exit' _

@@ -2,14 +2,14 @@
 use mathlib.Core.Path.{_≡_, refl, sym, ap, _∙_}
 use mathlib.Core.Bool.{Bool, true, false, _&&_, and-eq-true-iff, true≢false}
 use mathlib.Core.List.{List}
-use Prim.Native.Nat.{ℕ, zero, suc, _<_, _≤_}
+use Prim.Native.Nat.{ℕ, zero, suc, _<_}
 use native.Mathlib.Nat.{not-suc-le-zero}
 use native.Mathlib.Omega.{arith}
 use lib.Ieee.{Float, nan, lt, isNan}
-use lib.ListN.{length, getD}
+use lib.ListN.{length}
 use Rattle.common.specs.Floats.{zero₆₄, size}
 use Rattle.common.proofs.Cases.{by-bool, by-last}
-use Rattle.common.proofs.Orders.{lt-trans, lt-split, lt-self, lt-one-way}
+use Rattle.common.proofs.Orders.{lt-trans, lt-split, lt-self}
 use Rattle.aca_lines.specs.Largest.{best, argmax, pivot}
 use Rattle.aca_lines.specs.Facts.{sizeAt, Counted, FirstLargest, ArgmaxFacts}
 use Rattle.aca_lines.proofs.Largest.{argmax-in, any-default}
@@ -113,7 +113,8 @@ module _ (l : List Float) (on : ℕ → Bool) where
   unfolding argmax
   argmax-is = best-is l on (length l)
 
-  first-of : {j : ℕ} {w : Float} → Either l on (length l) j w → (k : ℕ) → Counted l on k → lt zero₆₄ (sizeAt l k) ≡ true → FirstLargest l on j
+  first-of : {j : ℕ} {w : Float} → Either l on (length l) j w → (k : ℕ) → Counted l on k → lt zero₆₄ (sizeAt l k) ≡ true →
+      FirstLargest l on j
   first-of (nothing h) k c a = absurd (true≢false (sym a ∙ h .none k (c .inside) (c .is-on)))
   first-of (something h) k c a =
       record {

@@ -56,7 +56,8 @@ module _ (l : List Float) (on : ℕ → Bool) (n place : ℕ) {worth : Float} (a
   unfolding argmax
   place-found = rw all at (b .place-is)
 
-  pub pivot-found : {s : Float} → place < length l → s ≡ size (getD l place nan) → _≡_ {A = Pivot} (record { place = place; size = s }) (pivot l on)
+  pub pivot-found : {s : Float} → place < length l → s ≡ size (getD l place nan) →
+      _≡_ {A = Pivot} (record { place = place; size = s }) (pivot l on)
   unfolding pivot
   pivot-found h e = rw (← place-found, e, any-default l place nan zero₆₄ h)
 
@@ -68,7 +69,8 @@ module _ (l : List Float) (on : ℕ → Bool) (n place : ℕ) {worth : Float} (a
 
 best-in : (n : ℕ) (l : List Float) (on : ℕ → Bool) → 0 < n → best n l on .place < n
 unfolding best
-best-in (suc zero) l on h = by-bool (on 0 && lt (best 0 l on .worth) (size (getD l 0 nan))) (λ e. rw e (omega arith)) (λ e. rw e (omega arith))
+best-in (suc zero) l on h =
+    by-bool (on 0 && lt (best 0 l on .worth) (size (getD l 0 nan))) (λ e. rw e (omega arith)) (λ e. rw e (omega arith))
 best-in (suc (suc n)) l on h =
     by-bool (on (suc n) && lt (best (suc n) l on .worth) (size (getD l (suc n) nan)))
     (λ e. rw e (omega arith))

@@ -33,6 +33,7 @@ pub residual-is : (n k : ℕ) (line : ℕ → Float) (terms : ℕ → ℕ → Fl
     after ≡ residual n k line terms factors
 unfolding residual
 residual-is n k line terms factors summed after e h =
+    let total : (i : ℕ) → Float = λ i. sums k (λ l. times (terms i l) (factors l)) in
     h ∙ rw e
-    (tabulate-cong n (λ c. minus (line c) (getD (tabulate n (λ i. sums k (λ l. times (terms i l) (factors l)))) c nan)) (λ c. minus (line c) (sums k (λ l. times (terms c l) (factors l))))
-    (λ c b. ap (minus (line c)) (getD-tabulate n (λ i. sums k (λ l. times (terms i l) (factors l))) c nan b)))
+    (tabulate-cong n (λ c. minus (line c) (getD (tabulate n total) c nan)) (λ c. minus (line c) (total c))
+    (λ c b. ap (minus (line c)) (getD-tabulate n total c nan b)))

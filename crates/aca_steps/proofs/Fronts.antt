@@ -18,7 +18,8 @@ module _ {A : Type 0} where
   head-long p x t h = rw (length-append, length-take-le p t h)
 
   -- a list copied to place p, behind p entries that are kept
-  pub upon-stretch : (p m : ℕ) (x t : List A) (d : A) → length x ≡ m → p + m ≤ length t → stretch p m (λ i. getD x i d) t ≡ upon (take p t ++ x) t
+  pub upon-stretch : (p m : ℕ) (x t : List A) (d : A) → length x ≡ m → p + m ≤ length t →
+      stretch p m (λ i. getD x i d) t ≡ upon (take p t ++ x) t
   upon-stretch p m x t d e h =
       let b : p ≤ length t = omega arith in
       rw (listed x m d e, head-long p x t b, e, append-assoc)
@@ -38,5 +39,7 @@ module _ {A : Type 0} where
       let more = length l' - length l in
       let whole : length l' ≡ length l + more = omega arith in
       let past : drop (length l') (upon l t) ≡ drop (length l') t =
-      rw whole (sym (drop-drop more (length l) (upon l t)) ∙ ap (drop more) (drop-at l (drop (length l) t) (length l) refl) ∙ drop-drop more (length l) t) in
+      rw whole
+      (sym (drop-drop more (length l) (upon l t)) ∙ ap (drop more) (drop-at l (drop (length l) t) (length l) refl)
+      ∙ drop-drop more (length l) t) in
       rw past

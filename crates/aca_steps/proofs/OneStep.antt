@@ -5,8 +5,7 @@ use mathlib.Core.List.{List, [], _∷_, _++_}
 use Prim.Native.Nat.{ℕ, _+_, _*_, _<_, _≤_}
 use native.Mathlib.Omega.{arith}
 use lib.Ieee.{Float, nan, lt}
-use lib.ListN.{length, getD, set, take}
-use Rattle.common.specs.Floats.{over, one₆₄}
+use lib.ListN.{length, set, take}
 use Rattle.common.proofs.Fill.{length-tabulate}
 use Rattle.common.proofs.Matrices.{column-fits}
 use Rattle.aca_lines.specs.Flags.{isOn, cleared}
@@ -15,9 +14,9 @@ use Rattle.aca_lines.specs.Lines.{residual, rowLess, columnLess, multiplied, no
 use Rattle.aca_lines.specs.declared.Pivot.{Pivot}
 use Rattle.aca_lines.proofs.Largest.{argmax-in}
 use Rattle.common.specs.Matrices.{matrix}
-use Rattle.aca_steps.specs.Crosses.{Block, Found, found, unread, rowRead, columnRead, grown, weighed, spent, tiny₆₄, judged, Outcome, outcome, stored, accepted, tried, step}
+use Rattle.aca_steps.specs.Crosses.{Block, Found, found, unread, rowRead, columnRead, grown, weighed, spent, tiny₆₄, outcome, stored, accepted, tried, step}
 use Rattle.aca_steps.specs.Memories.{Memory, memory, laid, blockOf}
-use Rattle.aca_steps.specs.Standing.{standing, Ready, made, Stepped}
+use Rattle.aca_steps.specs.Standing.{standing, Marks, Ready, made, Stepped}
 use Rattle.aca_steps.specs.Working.{RowFits, Lent, TermFits, TermStored}
 use Rattle.aca_steps.specs.declared.Progress.{Progress}
 use Rattle.aca_steps.specs.declared.Step.{Step}
@@ -61,7 +60,8 @@ module _ (samples : List Float) (tolerance : Float) (s : Progress) (read : ℕ) 
 
   -- a row has been read: w is its residual, and p its pivot
   module _ (w : List Float) (p : Pivot) (rows' list' : List ℕ) (row-is : w ≡ rowLess m n samples (t .us) (t .vs) k (s .next))
-      (pivot-is : p ≡ pivot w (isOn columns)) (rows-are : rows' ≡ cleared rows (s .next)) (list-is : list' ≡ set (t .«row-list») read (s .next)) where
+      (pivot-is : p ≡ pivot w (isOn columns)) (rows-are : rows' ≡ cleared rows (s .next))
+      (list-is : list' ≡ set (t .«row-list») read (s .next)) where
     row-long : length w ≡ n
     unfolding residual
     row-long = ap length row-is ∙ length-tabulate _ _
@@ -113,11 +113,17 @@ module _ (samples : List Float) (tolerance : Float) (s : Progress) (read : ℕ) 
     unfolding step
     step-is =
         ap (λ (f : Found). tried block tolerance s f (pivot (f .row) (unread (f .columns)))) row-read
-        ∙ ap (tried block tolerance s after-row) (sym (pivot-unread w columns js (rw row-long (ready .sizes .wide)) (ready .columns-marked)) ∙ sym pivot-is)
+        ∙ ap (tried block tolerance s after-row)
+        (sym (pivot-unread w columns js (rw row-long (ready .sizes .wide)) (ready .columns-marked)) ∙ sym pivot-is)
+
+    -- the flags say so too
+    rows-more : Marks (cleared rows (s .next)) is
+    rows-more = marks-more rows (take read (t .«row-list»)) (s .next) (ready .rows-marked)
 
     -- it has no pivot
     pub stopped : lt (p .size) tiny₆₄ ≡ true →
-        Stepped (made samples tolerance s read t) t (Stop spent s) (memory (t .us) (t .vs) list' (t .«column-list») w (t .column)) rows' columns
+        Stepped (made samples tolerance s read t) t (Stop spent s) (memory (t .us) (t .vs) list' (t .«column-list») w (t .column))
+        rows' columns
     unfolding tried laid
     stopped small =
         rw (step-is, small)
@@ -127,9 +133,14 @@ module _ (samples : List Float) (tolerance : Float) (s : Progress) (read : ℕ) 
               let left : k * m ≤ length (t .us) = omega (arith, u-room) in
               let right : k * n ≤ length (t .vs) = omega (arith, v-room) in
               let some : k ≤ length (t .«column-list») = omega (arith, ready .term) in
-              rw
-              (← upon-same (k * m) (t .us) left, ← upon-same (k * n) (t .vs) right, ← upon-same k (t .«column-list») some, ← upon-set read (s .next) (t .«row-list») (ready .reading), list-is);
-          rows-marked = rw rows-are (marks-more rows (take read (t .«row-list»)) (s .next) (ready .rows-marked));
+              rw (
+                ← upon-same (k * m) (t .us) left,
+                ← upon-same (k * n) (t .vs) right,
+                ← upon-same k (t .«column-list») some,
+                ← upon-set read (s .next) (t .«row-list») (ready .reading),
+                list-is,
+              );
+          rows-marked = rw rows-are rows-more;
           columns-marked = ready .columns-marked;
         }
 
@@ -170,7 +181,7 @@ module _ (samples : List Float) (tolerance : Float) (s : Progress) (read : ℕ) 
       weighed-is =
           let shared : cross k us vs x v ≡ cross k (t .us) (t .vs) x v = rw (column-long, v-long) at (cross-front k (t .us) (t .vs) x v) in
           let next : argmax x (isOn (cleared rows (s .next))) ≡ argmax x (unread is) =
-          argmax-unread x (cleared rows (s .next)) is (rw column-long (ready .sizes .tall)) (marks-more rows (take read (t .«row-list»)) (s .next) (ready .rows-marked)) in
+          argmax-unread x (cleared rows (s .next)) is (rw column-long (ready .sizes .tall)) rows-more in
           rw (shared, rows-are, next)
 
       accepted-is : accepted tolerance s after-column ≡ outcome r (stored after-column)
@@ -187,8 +198,16 @@ module _ (samples : List Float) (tolerance : Float) (s : Progress) (read : ℕ) 
           record {
             answer-is = refl;
             memory-is =
-                rw
-                (← upon-set read (s .next) (t .«row-list») (ready .reading), ← upon-set k j (t .«column-list») (ready .term), ← upon-stretch (k * m) m x (t .us) nan column-long u-room, ← upon-stretch (k * n) n v (t .vs) nan v-long v-room, us-are, vs-are, list-is, term-is .taken .list-is);
-            rows-marked = rw rows-are (marks-more rows (take read (t .«row-list»)) (s .next) (ready .rows-marked));
+                rw (
+                  ← upon-set read (s .next) (t .«row-list») (ready .reading),
+                  ← upon-set k j (t .«column-list») (ready .term),
+                  ← upon-stretch (k * m) m x (t .us) nan column-long u-room,
+                  ← upon-stretch (k * n) n v (t .vs) nan v-long v-room,
+                  us-are,
+                  vs-are,
+                  list-is,
+                  term-is .taken .list-is,
+                );
+            rows-marked = rw rows-are rows-more;
             columns-marked = rw (term-is .taken .flags-are) (marks-more columns js j (ready .columns-marked));
           }

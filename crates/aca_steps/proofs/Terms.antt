@@ -21,13 +21,15 @@ front : (m k : ℕ) (l : List Float) (i j : ℕ) → i < m → j < k → matrix 
 front m k l i j h b = getD-take (k * m) l (j * m + i) nan (digits-lt b h)
 
 pub residual-front : (n m k i : ℕ) (line : ℕ → Float) (terms factors : List Float) → i < m →
-    residual n k line (matrix n (take (k * n) terms)) (matrix m (take (k * m) factors) i) ≡ residual n k line (matrix n terms) (matrix m factors i)
+    residual n k line (matrix n (take (k * n) terms)) (matrix m (take (k * m) factors) i)
+    ≡ residual n k line (matrix n terms) (matrix m factors i)
 unfolding residual
 residual-front n m k i line terms factors h =
     tabulate-cong n _ _
     (λ c b. ap (minus (line c)) (sums-cong k _ _ (λ l a. rw (front n k terms c l b a, front m k factors i l h a))))
 
-inner-front : (m k : ℕ) (us u : List Float) (l : ℕ) → l < k → inner m (λ i. matrix m (take (k * m) us) i l) (entry u) ≡ inner m (λ i. matrix m us i l) (entry u)
+inner-front : (m k : ℕ) (us u : List Float) (l : ℕ) → l < k →
+    inner m (λ i. matrix m (take (k * m) us) i l) (entry u) ≡ inner m (λ i. matrix m us i l) (entry u)
 inner-front m k us u l h = sums-cong m _ _ (λ i b. ap (λ (x : Float). times x (entry u i)) (front m k us i l b h))
 
 pub cross-front : (k : ℕ) (us vs u v : List Float) → cross k (take (k * length u) us) (take (k * length v) vs) u v ≡ cross k us vs u v
@@ -35,6 +37,7 @@ unfolding cross
 cross-front k us vs u v = sums-cong k _ _ (λ l h. rw (inner-front (length u) k us u l h, inner-front (length v) k vs v l h))
 
 -- a term is judged by its norm, its cross term and the row to read next, whatever they are called
-pub judged-so : (tolerance : Float) (s : Progress) {s' : Progress} {r : Step} {g g' x x' : Float} {i i' : ℕ} → r ≡ judged tolerance g s' → s' ≡ grown s g x i →
+pub judged-so : (tolerance : Float) (s : Progress) {s' : Progress} {r : Step} {g g' x x' : Float} {i i' : ℕ} →
+    r ≡ judged tolerance g s' → s' ≡ grown s g x i →
     g ≡ g' → x ≡ x' → i ≡ i' → r ≡ judged tolerance g' (grown s g' x' i')
 judged-so tolerance s a b c d e = cc

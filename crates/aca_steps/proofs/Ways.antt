@@ -1,7 +1,6 @@
 -- A step of the rule, without memory: its parts, the three ways in which it goes, and how much it finds. Assumes nothing.
 use mathlib.Core.Path.{_≡_, refl, sym, _∙_}
 use mathlib.Core.Bool.{true, false}
-use mathlib.Core.List.{List}
 use Prim.Native.Nat.{ℕ, _+_, _*_, _<_, _≤_}
 use native.Mathlib.Omega.{arith}
 use lib.Ieee.{Float, lt, le}
@@ -10,7 +9,7 @@ use Rattle.common.specs.Floats.{times}
 use Rattle.common.proofs.Cases.{by-bool}
 use Rattle.common.proofs.Fill.{length-tabulate}
 use Rattle.common.proofs.Matrices.{next-column}
-use Rattle.aca_lines.specs.Largest.{argmax, pivot}
+use Rattle.aca_lines.specs.Largest.{pivot}
 use Rattle.aca_lines.specs.Lines.{residual, multiplied, norm}
 use Rattle.aca_lines.specs.declared.Pivot.{Pivot}
 use Rattle.aca_lines.proofs.Largest.{argmax-in}

@@ -17,7 +17,8 @@ told-injective (Refused n) (At k') e = let z : _≡_ {A = Option ℕ} none (some
 told-injective (At k) (Refused n') e = let z : _≡_ {A = Option ℕ} (some k) none = ap (λ (x : ℕ × Option ℕ). x .1) e in cc
 told-injective (At k) (At k') e = let z : some k ≡ some k' = ap (λ (x : ℕ × Option ℕ). x .1) e in cc
 
-argmax-masked-determined : (entries : List Float) (mask : List ℕ) (r r' : Place) → told r ≡ argmaxCall entries mask → told r' ≡ argmaxCall entries mask → r ≡ r'
+argmax-masked-determined : (entries : List Float) (mask : List ℕ) (r r' : Place) → told r ≡ argmaxCall entries mask →
+    told r' ≡ argmaxCall entries mask → r ≡ r'
 argmax-masked-determined entries mask r r' e e' = told-injective r r' (e ∙ sym e')
 
 calculate-singular-values-cutoff-determined : (values : List Float) (epsilon : Float) (r r' : Place) → told r ≡ cutoffCall values epsilon →

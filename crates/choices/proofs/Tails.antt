@@ -1,6 +1,6 @@
 -- Sums of squares from the end: one place more to the front; and they never fall. Assumes nothing.
-use mathlib.Core.Path.{_≡_, refl, sym, ap, _∙_}
-use mathlib.Core.Bool.{Bool, true, false, true≢false}
+use mathlib.Core.Path.{_≡_, refl, sym, _∙_}
+use mathlib.Core.Bool.{true, false, true≢false}
 use mathlib.Core.List.{List, [], _∷_}
 use Prim.Native.Nat.{ℕ, zero, suc, _+_, _-_, _<_, _≤_}
 use native.Mathlib.Omega.{arith}
@@ -46,10 +46,11 @@ module _ (b : Float) where
   never-falls x l h =
       let s = squares l in
       let q = times x x in
+      let not-less = add-not-below binary64 s q (squares-fits l) (squares-unsigned l) (square-unsigned binary64 x) in
       by-bool (lt (plus s q) b)
       (λ below. by-bool (isNan s)
       (λ n. nan-stays s q n b)
-      (λ n. absurd (true≢false (sym (lt-split (plus s q) s b n below (add-not-below binary64 s q (squares-fits l) (squares-unsigned l) (square-unsigned binary64 x))) ∙ h))))
+      (λ n. absurd (true≢false (sym (lt-split (plus s q) s b n below not-less) ∙ h))))
       (λ above. above)
 
   above-all : (l : List Float) (i : ℕ) → lt (squares (drop i l)) b ≡ false → lt (squares l) b ≡ false
@@ -58,7 +59,8 @@ module _ (b : Float) where
   above-all (x ∷ l) (suc i) h = never-falls x l (above-all l i h)
 
   -- the sums are below the bound from place i + 1 on, and not from place i on: so that is the place
-  pub found-after : (l : List Float) (i : ℕ) → i < length l → lt (squares (drop i l)) b ≡ false → firstBelow b (drop (suc i) l) ≡ 0 → firstBelow b l ≡ suc i
+  pub found-after : (l : List Float) (i : ℕ) → i < length l → lt (squares (drop i l)) b ≡ false →
+      firstBelow b (drop (suc i) l) ≡ 0 → firstBelow b l ≡ suc i
   unfolding firstBelow
   found-after [] i h above z = absurd (omega arith)
   found-after (x ∷ l) zero h above z = rw (above, z)
@@ -82,7 +84,8 @@ module _ (l : List Float) (i : ℕ) (some : 0 < i) (most : i ≤ length l) where
       let next : suc (i - 1) ≡ i = omega arith in
       rw next at (drop-cons l (i - 1) nan (omega arith))
 
-  pub squares-more : {x : Float} → x ≡ squares (drop i l) → plus x (times (getD l (i - 1) nan) (getD l (i - 1) nan)) ≡ squares (drop (i - 1) l)
+  pub squares-more : {x : Float} → x ≡ squares (drop i l) →
+      plus x (times (getD l (i - 1) nan) (getD l (i - 1) nan)) ≡ squares (drop (i - 1) l)
   unfolding squares
   squares-more e = rw (e, tail)
 

@@ -1,6 +1,6 @@
 -- The order of floats: below is transitive; and of two floats, one below the other, any third that is no NaN is above the one or below
 -- the other. Infinities and both zeros are included. Assumes nothing.
-use mathlib.Core.Path.{_≡_, refl, sym, ap, _∙_}
+use mathlib.Core.Path.{_≡_, refl, sym, _∙_}
 use mathlib.Core.Bool.{Bool, true, false, true≢false}
 use Prim.Native.Nat.{ℕ, _+_, _*_, _<_}
 use native.Mathlib.Nat.{zero-mul, mul-right-comm, mul-lt-mul-of-pos-right, mul-le-mul-right, add-mul}
@@ -10,7 +10,7 @@ use lib.IntN.{ℤ}
 use lib.Ieee.{Float, nan, inf, fin, up, down, below, lt, isNan}
 use lib.Ieee.Fits.{down-pos}
 use borrow.Author.Tests.{ltb-true, ltb-false, lt-ltb, le-ltb}
-use Rattle.common.proofs.Cases.{by-bool, by-lt}
+use Rattle.common.proofs.Cases.{by-lt}
 
 never : {A : Type 0} → true ≡ false → A
 never e = absurd (true≢false e)
@@ -125,7 +125,7 @@ lt-split (fin s m e) (fin t n d) (fin u l g) h p q =
     second s t u m n l e d g
     ∙ below-split s t u _ _ _ (sym (both s t u m n l e d g) ∙ p) (sym (first s t u m n l e d g) ∙ q)
 
--- nothing is below itself, so that of two floats at most one is below the other
+-- nothing is below itself
 pub lt-self : (x : Float) → lt x x ≡ false
 unfolding lt
 lt-self nan = refl
@@ -133,7 +133,3 @@ lt-self (inf true) = refl
 lt-self (inf false) = refl
 lt-self (fin true m e) = le-ltb (m * up e * down e) (m * up e * down e) (omega arith)
 lt-self (fin false m e) = le-ltb (m * up e * down e) (m * up e * down e) (omega arith)
-
-pub lt-one-way : (x y : Float) → lt x y ≡ true → lt y x ≡ false
-lt-one-way x y p =
-    by-bool (lt y x) (λ q. absurd (true≢false (sym (lt-trans x y x p q) ∙ lt-self x))) (λ q. q)

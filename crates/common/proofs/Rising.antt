@@ -3,7 +3,7 @@
 use mathlib.Core.Path.{_≡_, refl, sym, ap, _∙_, subst}
 use mathlib.Core.Bool.{Bool, true, false, not, _&&_, _||_, true≢false}
 use Prim.Native.Nat.{ℕ, zero, suc, _+_, _-_, _*_, _%_, _^_, _<_, _≤_}
-use native.Mathlib.Nat.{zero-mul, mul-one, one-mul, mul-assoc, mul-comm, mul-right-comm, mul-le-mul-right, mul-lt-mul-of-pos-right, le-trans, le-of-eq, lt-of-lt-of-le, mul-pos}
+use native.Mathlib.Nat.{zero-mul, mul-one, mul-assoc, mul-comm, mul-right-comm, mul-le-mul-right, mul-lt-mul-of-pos-right, le-trans, le-of-eq, lt-of-lt-of-le, mul-pos}
 use native.Mathlib.Omega.{arith}
 use lib.Dec.{T, ltb, leb, eqb, ltb→lt, leb→le, eqb→eq}
 use lib.IntN.{ℤ, pos, negsuc}
@@ -99,7 +99,9 @@ itself f m (negsuc k) h =
     let wide : m < 2 ^ suc (emax f) * 2 ^ suc k = rw mul-one at (h .low-enough) in
     let above : m * 2 ^ j < 2 ^ (low f + suc (emax f)) =
     lt-of-lt-of-le (mul-lt-mul-of-pos-right wide (pow-pos j))
-    (le-of-eq (mul-assoc (2 ^ suc (emax f)) (2 ^ suc k) (2 ^ j) ∙ rw (mul-comm (2 ^ suc k) (2 ^ j), parts, mul-comm (2 ^ suc (emax f)) (2 ^ low f), ← pow-add 2 (low f) (suc (emax f))))) in
+    (le-of-eq
+    (mul-assoc (2 ^ suc (emax f)) (2 ^ suc k) (2 ^ j)
+    ∙ rw (mul-comm (2 ^ suc k) (2 ^ j), parts, mul-comm (2 ^ suc (emax f)) (2 ^ low f), ← pow-add 2 (low f) (suc (emax f))))) in
     round-exact f false (m * 1) (2 ^ suc k) m j (pow-pos (suc k)) (h .short) above
     (rw (mul-one, mul-assoc m (2 ^ j) (2 ^ suc k), parts))
 
@@ -108,7 +110,8 @@ itself-zero f e =
     round-exact f false (0 * up e) (down e) 0 0 (down-pos e) (pow-pos (prec f)) (pow-pos (low f + suc (emax f)))
     (rw (zero-mul (up e), zero-mul (2 ^ low f), zero-mul (down e)))
 
-pub round-itself : (f : Format) (m : ℕ) (e : ℤ) → T (fits f (fin false m e)) → HasValue (round f false (m * up e) (down e)) false (m * up e) (down e)
+pub round-itself : (f : Format) (m : ℕ) (e : ℤ) → T (fits f (fin false m e)) →
+    HasValue (round f false (m * up e) (down e)) false (m * up e) (down e)
 round-itself f zero e h = itself-zero f e
 round-itself f (suc m) e h = itself f (suc m) e (held f m e h)
 
@@ -122,7 +125,8 @@ le-finite a b h =
     le-of-eq (eqb→eq a b (and-l (eqb a b) true z)))
 
 -- x, which has the value of the float m, e, is not above y; so y is not below that float
-not-below : (x y : Float) (m : ℕ) (e : ℤ) → HasValue x false (m * up e) (down e) → unsigned y ≡ true → T (le x y) → lt y (fin false m e) ≡ false
+not-below : (x y : Float) (m : ℕ) (e : ℤ) → HasValue x false (m * up e) (down e) → unsigned y ≡ true → T (le x y) →
+    lt y (fin false m e) ≡ false
 unfolding le lt
 not-below nan y m e v u h = absurd v
 not-below (inf s) y m e v u h = absurd v

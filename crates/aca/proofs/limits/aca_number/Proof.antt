@@ -1,11 +1,17 @@
 -- `aca::limits::aca_number` meets its contract: each return by the tests that led there. Assumes nothing.
 use borrow.Author.Needs.{needs}
-use mathlib.Core.Path.{sym, _∙_}
+use mathlib.Core.Path.{_≡_, sym, _∙_}
 use borrow.Author.Tests.{le-leb, lt-leb}
-use Rattle.common.specs.Refusals.{mostEntries}
-use Rattle.aca.specs.Runs.{acaNumber}
+use Rattle.common.specs.Refusals.{mostEntries, wrongLength, unless}
+use Rattle.aca.specs.Runs.{fits, acaNumber}
 use Rattle.aca.proofs.limits.aca_number.Statement.{statement}
 use Rattle.aca.proofs.limits.aca_number.Tie as tie
+
+-- there are not too many rows or columns
+counted : (c : tie.Else2) → let a = c .before .before .args in
+    acaNumber (a .rows) (a .columns) (a .lent) ≡ unless (fits (a .rows) (a .columns) (a .lent)) wrongLength 0
+unfolding acaNumber
+counted c = rw (le-leb _ mostEntries (c .before .if1 .left), le-leb _ mostEntries (c .if2 .left))
 
 returns : tie.Need-returns
 unfolding acaNumber
@@ -19,14 +25,10 @@ fits-requires : tie.Need-fits-requires
 fits-requires c κs = search needs
 
 returns-3 : tie.Need-returns-3
-unfolding acaNumber
-returns-3 c =
-    rw (le-leb _ mostEntries (c .before .before .before .if1 .left), le-leb _ mostEntries (c .before .before .if2 .left), sym (c .before .fits2 .ensures) ∙ c .if3 .taken)
+returns-3 c = rw (counted (c .before .before), sym (c .before .fits2 .ensures) ∙ c .if3 .taken)
 
 returns-4 : tie.Need-returns-4
-unfolding acaNumber
-returns-4 c =
-    rw (le-leb _ mostEntries (c .before .before .before .if1 .left), le-leb _ mostEntries (c .before .before .if2 .left), sym (c .before .fits2 .ensures) ∙ c .if3 .left)
+returns-4 c = rw (counted (c .before .before), sym (c .before .fits2 .ensures) ∙ c .if3 .left)
 
 pub aca-number-spec : {M : Type 1} → statement M
 aca-number-spec = tie.close (tie.spec returns returns-2 fits-requires returns-3 returns-4)

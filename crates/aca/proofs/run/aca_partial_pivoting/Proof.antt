@@ -35,7 +35,8 @@ run-requires c κs =
     let o = f .before .before in
     let n = o .before in
     let a = start n .args in
-    begun (a .rows) (a .columns) (a .samples .now) (a .epsilon) _ _ (n .aca-number .ensures) (o .if1 .left) _ _ (f .before .all-on .ensures) (f .all-on2 .ensures)
+    begun (a .rows) (a .columns) (a .samples .now) (a .epsilon) _ _ (n .aca-number .ensures) (o .if1 .left)
+    _ _ (f .before .all-on .ensures) (f .all-on2 .ensures)
 
 same-length : tie.Need-same-length
 same-length c = search needs

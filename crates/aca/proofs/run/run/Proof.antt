@@ -1,8 +1,9 @@
--- `aca::run::run` meets its contract. The loop keeps: what is left of the run, from where the memory stands, is the whole run. Assumes nothing.
+-- `aca::run::run` meets its contract. The loop keeps: what is left of the run, from where the memory stands, is the
+-- whole run. Assumes nothing.
 use borrow.Author.Needs.{needs}
 use mathlib.Core.Path.{_≡_, refl}
 use mathlib.Core.List.{List}
-use Prim.Native.Nat.{ℕ, _-_, _+_, _<_, _^_}
+use Prim.Native.Nat.{_-_, _+_, _<_, _^_}
 use native.Mathlib.Omega.{arith}
 use lib.Ieee.{Float}
 use lib.ListN.{length}
@@ -12,12 +13,15 @@ use Rattle.aca.proofs.run.run.Statement.{statement}
 use Rattle.aca.proofs.run.run.Tie as tie
 
 abbrev Inv-loop : tie.InvT-loop
-Inv-loop samples tolerance u₀ v₀ row-flags₀ column-flags₀ row-list₀ column-list₀ row₀ column₀ most s₀ read₀ u v row-flags column-flags row-list column-list row column s read =
+Inv-loop samples tolerance u₀ v₀ row-flags₀ column-flags₀ row-list₀ column-list₀ row₀ column₀ most s₀ read₀
+    u v row-flags column-flags row-list column-list row column s read =
     (most ≡ length row-list₀) ×
-    Going samples tolerance (memory u₀ v₀ row-list₀ column-list₀ row₀ column₀) (memory u v row-list column-list row column) row-flags column-flags s read
+    Going samples tolerance (memory u₀ v₀ row-list₀ column-list₀ row₀ column₀) (memory u v row-list column-list row column)
+    row-flags column-flags s read
 
 abbrev μ-loop : tie.MeasureT-loop
-μ-loop samples tolerance u₀ v₀ row-flags₀ column-flags₀ row-list₀ column-list₀ row₀ column₀ most s₀ read₀ u v row-flags column-flags row-list column-list row column s read = most - read
+μ-loop samples tolerance u₀ v₀ row-flags₀ column-flags₀ row-list₀ column-list₀ row₀ column₀ most s₀ read₀
+    u v row-flags column-flags row-list column-list row column s read = most - read
 
 -- THE PLACES, each from the one after it
 
@@ -67,8 +71,13 @@ module _ (c : tie.After-advance Inv-loop μ-loop) where
 
   abbrev after : Memory
   after =
-      memory (c .advance .last .1 .1 .1 .1 .0) (c .advance .last .1 .1 .1 .1 .1 .0) (c .advance .last .1 .1 .1 .1 .1 .1 .1 .1 .0) (c .advance .last .1 .1 .1 .1 .1 .1 .1 .1 .1 .0)
-      (c .advance .last .1 .1 .1 .1 .1 .1 .1 .1 .1 .1 .0) (c .advance .last .1 .1 .1 .1 .1 .1 .1 .1 .1 .1 .1 .0)
+      memory
+      (c .advance .last .1 .1 .1 .1 .0)
+      (c .advance .last .1 .1 .1 .1 .1 .0)
+      (c .advance .last .1 .1 .1 .1 .1 .1 .1 .1 .0)
+      (c .advance .last .1 .1 .1 .1 .1 .1 .1 .1 .1 .0)
+      (c .advance .last .1 .1 .1 .1 .1 .1 .1 .1 .1 .1 .0)
+      (c .advance .last .1 .1 .1 .1 .1 .1 .1 .1 .1 .1 .1 .0)
 
   same : Alike (held (from .before)) after
   same =
@@ -132,7 +141,8 @@ returns c =
     let i = from a in
     let l = i .before in
     rw (c .report .ensures)
-    (stops (samples l) (tolerance l) (lent l) _ _ (start l .pre) (held l) _ _ _ _ (going l) (left i) _ (after a) _ _ (a .advance .ensures) _ _ (c .before .before .made2 .given .1))
+    (stops (samples l) (tolerance l) (lent l) _ _ (start l .pre) (held l) _ _ _ _ (going l) (left i)
+    _ (after a) _ _ (a .advance .ensures) _ _ (c .before .before .made2 .given .1))
 
 add-read : tie.Need-add-read Inv-loop μ-loop
 add-read c = record { fits = small (from (stepped-on c)) }
@@ -145,7 +155,9 @@ loop-again c =
     let a = stepped-on c in
     let i = from a in
     let l = i .before in
-    (l .loop .inv .0, goes (samples l) (tolerance l) (lent l) _ _ (start l .pre) (held l) _ _ _ _ (going l) (left i) _ (after a) _ _ (a .advance .ensures) _ (c .before .made .given .1) (same a))
+    let on =
+    goes (samples l) (tolerance l) (lent l) _ _ (start l .pre) (held l) _ _ _ _ (going l) (left i) _ (after a) _ _ (a .advance .ensures) in
+    (l .loop .inv .0, on _ (c .before .made .given .1) (same a))
 
 report-requires-2 : tie.Need-report-requires-2 Inv-loop μ-loop
 report-requires-2 c κs = search needs

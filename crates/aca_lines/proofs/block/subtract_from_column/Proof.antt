@@ -1,9 +1,10 @@
 -- `aca_lines::block::subtract_from_column` meets its contract. The loop keeps: the entries before i are subtracted. Assumes nothing.
 use borrow.Author.Needs.{needs}
+use mathlib.Core.List.{List}
 use mathlib.Core.Path.{_≡_, refl, sym}
-use Prim.Native.Nat.{_-_}
+use Prim.Native.Nat.{ℕ, _-_}
 use native.Mathlib.Omega.{arith}
-use lib.Ieee.{nan}
+use lib.Ieee.{Float, nan}
 use lib.ListN.{length, getD}
 use Rattle.common.specs.Floats.{minus}
 use Rattle.common.specs.Matrices.{matrix}
@@ -18,14 +19,27 @@ Inv-loop samples j column₀ m i₀ column i =
 abbrev μ-loop : tie.MeasureT-loop
 μ-loop samples j column₀ m i₀ column i = m - i
 
+-- the column as it came, and what its entry k becomes
+module _ (c : tie.Start Inv-loop μ-loop) where
+  abbrev lent : List Float
+  lent = c .args .column .now
+
+  abbrev sample : (k : ℕ) → Float
+  sample k = matrix (length lent) (c .args .samples .now) k (c .args .j)
+
+  abbrev becomes : (k : ℕ) → Float
+  becomes k = minus (sample k) (getD lent k nan)
+
 loop-holds : tie.Need-loop-holds Inv-loop μ-loop
-loop-holds c =
-    (refl, filling-none 0 _ (λ k. minus (matrix (length (c .before .before .args .column .now)) (c .before .before .args .samples .now) k (c .before .before .args .j)) (getD (c .before .before .args .column .now) k nan)) _)
+loop-holds c = (refl, filling-none 0 _ (becomes (c .before .before)) _)
+
+abbrev start : tie.At-loop Inv-loop μ-loop → tie.Start Inv-loop μ-loop
+start c = c .before .before .before
 
 sample-requires : tie.Need-sample-requires Inv-loop μ-loop
 sample-requires c κs =
-    let l = c .before .loop .inv in
-    rw (l .0) (omega (arith, c .loop-test .taken, l .0, c .before .before .before .before .pre))
+    let v = c .before .loop .inv in
+    rw (v .0) (omega (arith, c .loop-test .taken, v .0, start (c .before) .pre))
 
 mul-column : tie.Need-mul-column Inv-loop μ-loop
 mul-column c = search needs
@@ -47,19 +61,20 @@ loop-less c = search needs
 
 loop-again : tie.Need-loop-again Inv-loop μ-loop
 loop-again c =
-    let a = c .before .before .before .before .before .before .args in
-    let l = c .before .before .before .loop in
-    let m = length (a .column .now) in
-    (l .inv .0, changing-front _ (λ k. minus (matrix m (a .samples .now) k (a .j)) (getD (a .column .now) k nan)) (λ x. minus (matrix m (a .samples .now) (l .i) (a .j)) x) _ _ _ nan _ (l .inv .1) (c .before .before .loop-test .taken) (sym (l .inv .0)) refl (rw (c .before .sample .ensures, l .inv .0)))
+    let i = c .before .before in
+    let h = i .before in
+    let s = start h in
+    let v = h .loop .inv in
+    let next = changing-front _ (becomes s) (minus (sample s (h .loop .i))) _ _ _ nan _ (v .1) (i .loop-test .taken) (sym (v .0)) refl in
+    (v .0, next (rw (c .before .sample .ensures, v .0)))
 
 same-length : tie.Need-same-length Inv-loop μ-loop
 same-length c = c .before .loop .inv .1 .long
 
 returns : tie.Need-returns Inv-loop μ-loop
 returns c =
-    let l = c .before .loop .inv in
-    let a = c .before .before .before .before .args in
-    rw (l .0) at (filling-whole _ (λ k. minus (matrix (length (a .column .now)) (a .samples .now) k (a .j)) (getD (a .column .now) k nan)) _ _ _ (l .1) (c .loop-test .left) (sym (l .0)))
+    let v = c .before .loop .inv in
+    rw (v .0) at (filling-whole _ (becomes (start (c .before))) _ _ _ (v .1) (c .loop-test .left) (sym (v .0)))
 
 pub subtract-from-column-spec : {M : Type 1} → statement M
 subtract-from-column-spec =

@@ -1,14 +1,15 @@
 -- `aca_lines::block::subtract_from_row` meets its contract. The loop keeps: the entries before c are subtracted. Assumes nothing.
 use borrow.Author.Needs.{needs}
+use mathlib.Core.List.{List}
 use mathlib.Core.Path.{_≡_, refl, sym}
-use Prim.Native.Nat.{_-_, _<_}
+use Prim.Native.Nat.{ℕ, _-_, _<_}
 use native.Mathlib.Omega.{arith}
-use lib.Ieee.{nan}
+use lib.Arith.{digits-lt}
+use lib.Ieee.{Float, nan}
 use lib.ListN.{length, getD}
 use Rattle.common.specs.Floats.{minus}
 use Rattle.common.specs.Matrices.{matrix}
 use Rattle.common.proofs.Fill.{Filling, filling-none, changing-front, filling-whole}
-use lib.Arith.{digits-lt}
 use Rattle.aca_lines.proofs.block.subtract_from_row.Statement.{statement}
 use Rattle.aca_lines.proofs.block.subtract_from_row.Tie as tie
 
@@ -19,16 +20,28 @@ Inv-loop samples rows i row₀ n c₀ row c =
 abbrev μ-loop : tie.MeasureT-loop
 μ-loop samples rows i row₀ n c₀ row c = n - c
 
+-- the row as it came, and what its entry k becomes
+module _ (c : tie.Start Inv-loop μ-loop) where
+  abbrev lent : List Float
+  lent = c .args .row .now
+
+  abbrev sample : (k : ℕ) → Float
+  sample = matrix (c .args .rows) (c .args .samples .now) (c .args .i)
+
+  abbrev becomes : (k : ℕ) → Float
+  becomes k = minus (sample k) (getD lent k nan)
+
 loop-holds : tie.Need-loop-holds Inv-loop μ-loop
-loop-holds c =
-    (refl, filling-none 0 _ (λ k. minus (matrix (c .before .before .args .rows) (c .before .before .args .samples .now) (c .before .before .args .i) k) (getD (c .before .before .args .row .now) k nan)) _)
+loop-holds c = (refl, filling-none 0 _ (becomes (c .before .before)) _)
+
+abbrev start : tie.At-loop Inv-loop μ-loop → tie.Start Inv-loop μ-loop
+start c = c .before .before .before
 
 sample-requires : tie.Need-sample-requires Inv-loop μ-loop
 sample-requires c κs =
-    let s = c .before .before .before .before in
-    let inside : c .before .loop .c < length (s .args .row .now) = omega (arith, c .loop-test .taken, c .before .loop .inv .0) in
-    let fits = digits-lt inside (s .pre .0) in
-    omega (arith, fits, s .pre .1)
+    let s = start (c .before) in
+    let inside : c .before .loop .c < length (lent s) = omega (arith, c .loop-test .taken, c .before .loop .inv .0) in
+    omega (arith, digits-lt inside (s .pre .0), s .pre .1)
 
 mul-row : tie.Need-mul-row Inv-loop μ-loop
 mul-row c = search needs
@@ -50,18 +63,20 @@ loop-less c = search needs
 
 loop-again : tie.Need-loop-again Inv-loop μ-loop
 loop-again c =
-    let a = c .before .before .before .before .before .before .args in
-    let l = c .before .before .before .loop in
-    (l .inv .0, changing-front _ (λ k. minus (matrix (a .rows) (a .samples .now) (a .i) k) (getD (a .row .now) k nan)) (λ x. minus (matrix (a .rows) (a .samples .now) (a .i) (l .c)) x) _ _ _ nan _ (l .inv .1) (c .before .before .loop-test .taken) (sym (l .inv .0)) refl (rw (c .before .sample .ensures)))
+    let i = c .before .before in
+    let h = i .before in
+    let s = start h in
+    let v = h .loop .inv in
+    let next = changing-front _ (becomes s) (minus (sample s (h .loop .c))) _ _ _ nan _ (v .1) (i .loop-test .taken) (sym (v .0)) refl in
+    (v .0, next (rw (c .before .sample .ensures)))
 
 same-length : tie.Need-same-length Inv-loop μ-loop
 same-length c = c .before .loop .inv .1 .long
 
 returns : tie.Need-returns Inv-loop μ-loop
 returns c =
-    let l = c .before .loop .inv in
-    let a = c .before .before .before .before .args in
-    rw (l .0) at (filling-whole _ (λ k. minus (matrix (a .rows) (a .samples .now) (a .i) k) (getD (a .row .now) k nan)) _ _ _ (l .1) (c .loop-test .left) (sym (l .0)))
+    let v = c .before .loop .inv in
+    rw (v .0) at (filling-whole _ (becomes (start (c .before))) _ _ _ (v .1) (c .loop-test .left) (sym (v .0)))
 
 pub subtract-from-row-spec : {M : Type 1} → statement M
 subtract-from-row-spec =

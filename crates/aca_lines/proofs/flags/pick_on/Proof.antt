@@ -1,6 +1,5 @@
 -- `aca_lines::flags::pick_on` meets its contract: the flags are bytes, and the search takes them for a mask. Assumes nothing.
 use borrow.Author.Needs.{needs}
-use mathlib.Core.Path.{refl}
 use Rattle.aca_lines.specs.Flags.{isOn}
 use Rattle.aca_lines.proofs.flags.pick_on.Statement.{statement}
 use Rattle.aca_lines.proofs.flags.pick_on.Tie as tie

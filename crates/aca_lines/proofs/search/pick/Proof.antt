@@ -84,7 +84,8 @@ module _ (c : tie.After-loop Inv-loop μ-loop) where
   all : c .before .loop .k ≡ length entries
   all = omega (arith, c .before .loop .inv .0)
 
-  found : {s : Float} → place < length entries → s ≡ size (getD entries place nan) → _≡_ {A = Pivot} (record { place = place; size = s }) (pivot entries on)
+  found : {s : Float} → place < length entries → s ≡ size (getD entries place nan) →
+      _≡_ {A = Pivot} (record { place = place; size = s }) (pivot entries on)
   found = pivot-found entries on (c .before .loop .k) place all (c .before .loop .inv .1)
 
   missing : length entries ≤ place → _≡_ {A = Pivot} (record { place = place; size = zero₆₄ }) (pivot entries on)

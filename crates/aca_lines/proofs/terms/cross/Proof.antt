@@ -1,8 +1,9 @@
 -- `aca_lines::terms::cross` meets its contract. The loop keeps: sum has the products of the terms before l. Assumes nothing.
 use borrow.Author.Needs.{needs}
 use mathlib.Core.Path.{_≡_, refl, _∙_}
-use Prim.Native.Nat.{_-_, _*_, _≤_}
+use Prim.Native.Nat.{ℕ, _-_, _*_, _≤_}
 use native.Mathlib.Omega.{arith}
+use lib.Ieee.{Float}
 use lib.ListN.{length}
 use Rattle.common.specs.Floats.{times, sums}
 use Rattle.common.proofs.Matrices.{column-fits}
@@ -65,7 +66,9 @@ loop-again c =
     c .before .dot .ensures ∙ rw (l .inv .0) (dot-line m (l .l * m) (a .u .now) (a .column .now)) in
     let second : c .dot2 .result ≡ inner n (λ i. matrix n (a .v .now) i (l .l)) (entry (a .row .now)) =
     c .dot2 .ensures ∙ rw (l .inv .1) (dot-line n (l .l * n) (a .v .now) (a .row .now)) in
-    (l .inv .0, l .inv .1, omega arith, rw (first, second) (sums-more (λ i. times (inner m (λ j. matrix m (a .u .now) j i) (entry (a .column .now))) (inner n (λ j. matrix n (a .v .now) j i) (entry (a .row .now)))) (l .l) (l .sum) (l .inv .3)))
+    let u-part : (i : ℕ) → Float = λ i. inner m (λ j. matrix m (a .u .now) j i) (entry (a .column .now)) in
+    let v-part : (i : ℕ) → Float = λ i. inner n (λ j. matrix n (a .v .now) j i) (entry (a .row .now)) in
+    (l .inv .0, l .inv .1, omega arith, rw (first, second) (sums-more (λ i. times (u-part i) (v-part i)) (l .l) (l .sum) (l .inv .3)))
 
 returns : tie.Need-returns Inv-loop μ-loop
 returns c =

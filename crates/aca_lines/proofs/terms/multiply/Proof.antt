@@ -1,8 +1,8 @@
 -- `aca_lines::terms::multiply` meets its contract. The loop keeps: the entries before c are multiplied. Assumes nothing.
 use borrow.Author.Needs.{needs}
 use mathlib.Core.Path.{_≡_, refl, sym}
-use Prim.Native.Nat.{_-_}
-use lib.Ieee.{nan}
+use Prim.Native.Nat.{ℕ, _-_}
+use lib.Ieee.{Float, nan}
 use lib.ListN.{length, getD}
 use Rattle.common.specs.Floats.{times}
 use Rattle.aca_lines.specs.Lines.{multiplied}
@@ -16,9 +16,12 @@ Inv-loop factor line₀ n c₀ line c = (n ≡ length line₀) × Filling 0 n (�
 abbrev μ-loop : tie.MeasureT-loop
 μ-loop factor line₀ n c₀ line c = n - c
 
+-- what entry k of the line becomes
+abbrev becomes : tie.Start Inv-loop μ-loop → (k : ℕ) → Float
+becomes c k = times (getD (c .args .line .now) k nan) (c .args .factor)
+
 loop-holds : tie.Need-loop-holds Inv-loop μ-loop
-loop-holds c =
-    (refl, filling-none 0 _ (λ k. times (getD (c .args .line .now) k nan) (c .args .factor)) _)
+loop-holds c = (refl, filling-none 0 _ (becomes c) _)
 
 mul-line : tie.Need-mul-line Inv-loop μ-loop
 mul-line c = search needs
@@ -40,9 +43,11 @@ loop-less c = search needs
 
 loop-again : tie.Need-loop-again Inv-loop μ-loop
 loop-again c =
-    let a = c .before .before .before .args in
-    let l = c .before .before .loop .inv in
-    (l .0, changing-front _ (λ k. times (getD (a .line .now) k nan) (a .factor)) (λ x. times x (a .factor)) _ _ _ nan _ (l .1) (c .before .loop-test .taken) (sym (l .0)) refl refl)
+    let i = c .before in
+    let s = i .before .before in
+    let v = i .before .loop .inv in
+    let by = s .args .factor in
+    (v .0, changing-front _ (becomes s) (λ x. times x by) _ _ _ nan _ (v .1) (i .loop-test .taken) (sym (v .0)) refl refl)
 
 same-length : tie.Need-same-length Inv-loop μ-loop
 same-length c = c .before .loop .inv .1 .long
@@ -50,8 +55,8 @@ same-length c = c .before .loop .inv .1 .long
 returns : tie.Need-returns Inv-loop μ-loop
 unfolding multiplied
 returns c =
-    let l = c .before .loop .inv in
-    rw (l .0) at (filling-whole _ (λ k. times (getD (c .before .before .args .line .now) k nan) (c .before .before .args .factor)) _ _ _ (l .1) (c .loop-test .left) (sym (l .0)))
+    let v = c .before .loop .inv in
+    rw (v .0) at (filling-whole _ (becomes (c .before .before)) _ _ _ (v .1) (c .loop-test .left) (sym (v .0)))
 
 pub multiply-spec : {M : Type 1} → statement M
 multiply-spec =

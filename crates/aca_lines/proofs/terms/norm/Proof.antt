@@ -15,7 +15,9 @@ returns : tie.Need-returns
 unfolding norm
 returns c =
     let a = c .before .before .before .before .args in
-    rw (c .before .dot .ensures, c .dot2 .ensures, dot-whole (length (a .column .now)) (a .column .now) (a .column .now), dot-whole (length (a .row .now)) (a .row .now) (a .row .now))
+    let u = a .column .now in
+    let v = a .row .now in
+    rw (c .before .dot .ensures, c .dot2 .ensures, dot-whole (length u) u u, dot-whole (length v) v v)
 
 pub norm-spec : {M : Type 1} → statement M
 norm-spec = tie.close (tie.spec dot-requires dot-requires-2 returns)

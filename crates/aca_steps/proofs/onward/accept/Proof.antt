@@ -79,7 +79,8 @@ returns c =
     record {
       taken = t .take-column .ensures .1;
       answer-is =
-          judged-so (start t .args .tolerance) (start t .args .s) (c .judge .ensures) (c .before .grow .ensures) (n .norm .ensures) (x .cross .ensures) (t .take-column .ensures .0);
+          judged-so (start t .args .tolerance) (start t .args .s) (c .judge .ensures) (c .before .grow .ensures)
+          (n .norm .ensures) (x .cross .ensures) (t .take-column .ensures .0);
       us-are = s .store .ensures .0;
       vs-are = s .store .ensures .1;
     }

@@ -1,15 +1,21 @@
 -- `choices::argmax::argmax_masked` meets its contract: each return by the tests that led there. Assumes nothing.
 use borrow.Author.Needs.{needs}
-use mathlib.Core.Path.{sym, ap, _∙_}
+use mathlib.Core.Path.{_≡_, sym, ap, _∙_}
 use borrow.Author.Tests.{le-leb, lt-leb, eq-eqb, ne-eqb}
-use Rattle.common.specs.Refusals.{mostEntries}
+use Rattle.common.specs.Refusals.{mostEntries, noMask, unless}
 use Rattle.choices.specs.declared.Place.the-variants.{At}
 use Rattle.aca_lines.specs.Largest.{pivot}
 use Rattle.aca_lines.specs.declared.Pivot.{Pivot}
-use Rattle.choices.specs.Argmax.{argmaxNumber, argmaxCall}
+use Rattle.choices.specs.Argmax.{isMask, argmaxNumber, argmaxCall}
 use Rattle.choices.specs.Places.{told}
 use Rattle.choices.proofs.argmax.argmax_masked.Statement.{statement}
 use Rattle.choices.proofs.argmax.argmax_masked.Tie as tie
+
+-- the lists are not too long and have one length: what is left is the mask
+sized : (c : tie.Else2) → let a = c .before .before .before .before .args in
+    argmaxNumber (a .entries .now) (a .mask .now) ≡ unless (isMask (a .mask .now)) noMask 0
+unfolding argmaxNumber
+sized c = rw (le-leb _ mostEntries (c .before .if1 .left), eq-eqb _ _ (c .if2 .left))
 
 returns : tie.Need-returns
 unfolding argmaxCall argmaxNumber
@@ -26,12 +32,15 @@ pick-requires : tie.Need-pick-requires
 pick-requires c κs = search needs
 
 returns-3 : tie.Need-returns-3
-unfolding argmaxCall argmaxNumber pivot
-returns-3 c = rw (le-leb _ mostEntries (c .before .before .before .before .if1 .left), eq-eqb _ _ (c .before .before .before .if2 .left), sym (c .before .before .is-mask .ensures) ∙ c .before .if3 .taken) (ap (λ (p : Pivot). told (At (p .place))) (c .pick .ensures))
+unfolding argmaxCall pivot
+returns-3 c =
+    let m = c .before in
+    rw (sized (m .before .before), sym (m .before .is-mask .ensures) ∙ m .if3 .taken)
+    (ap (λ (p : Pivot). told (At (p .place))) (c .pick .ensures))
 
 returns-4 : tie.Need-returns-4
-unfolding argmaxCall argmaxNumber
-returns-4 c = rw (le-leb _ mostEntries (c .before .before .before .if1 .left), eq-eqb _ _ (c .before .before .if2 .left), sym (c .before .is-mask .ensures) ∙ c .if3 .left)
+unfolding argmaxCall
+returns-4 c = rw (sized (c .before .before), sym (c .before .is-mask .ensures) ∙ c .if3 .left)
 
 pub argmax-masked-spec : {M : Type 1} → statement M
 argmax-masked-spec =

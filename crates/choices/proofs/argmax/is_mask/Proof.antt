@@ -1,8 +1,8 @@
 -- `choices::argmax::is_mask` meets its contract. The loop keeps: the first k bytes are 0 or 1. Assumes nothing.
 use borrow.Author.Needs.{needs}
 use mathlib.Core.Path.{_≡_, refl, sym}
-use mathlib.Core.Bool.{true}
-use Prim.Native.Nat.{_-_, _≤_}
+use mathlib.Core.Bool.{Bool, true}
+use Prim.Native.Nat.{ℕ, _-_, _≤_}
 use native.Mathlib.Omega.{arith}
 use lib.Dec.{leb}
 use lib.ListN.{length, getD}
@@ -19,6 +19,10 @@ Inv-loop mask k₀ k = (k ≤ length mask) × (each k (λ j. leb (getD mask j 0)
 abbrev μ-loop : tie.MeasureT-loop
 μ-loop mask k₀ k = length mask - k
 
+-- byte j of the mask is 0 or 1
+abbrev right : tie.At-loop Inv-loop μ-loop → (j : ℕ) → Bool
+right c j = leb (getD (c .before .args .mask .now) j 0) 1
+
 loop-holds : tie.Need-loop-holds Inv-loop μ-loop
 unfolding each
 loop-holds c = (omega arith, refl)
@@ -29,8 +33,8 @@ shared-slice-read-if1 c = search needs
 returns : tie.Need-returns Inv-loop μ-loop
 unfolding isMask
 returns c =
-    let l = c .before .before .before .loop in
-    sym (each-not _ (λ j. leb (getD (c .before .before .before .before .args .mask .now) j 0) 1) (l .k) (c .before .before .loop-test .taken) (lt-leb _ 1 (c .if1 .taken)))
+    let i = c .before .before in
+    sym (each-not _ (right (i .before)) (i .before .loop .k) (i .loop-test .taken) (lt-leb _ 1 (c .if1 .taken)))
 
 add-k : tie.Need-add-k Inv-loop μ-loop
 add-k c = search needs
@@ -40,8 +44,8 @@ loop-less c = search needs
 
 loop-again : tie.Need-loop-again Inv-loop μ-loop
 loop-again c =
-    let l = c .before .before .before .loop in
-    (omega arith, each-more (l .k) (λ j. leb (getD (c .before .before .before .before .args .mask .now) j 0) 1) (l .inv .1) (le-leb _ 1 (c .if1 .left)))
+    let h = c .before .before .before in
+    (omega arith, each-more (h .loop .k) (right h) (h .loop .inv .1) (le-leb _ 1 (c .if1 .left)))
 
 returns-2 : tie.Need-returns-2 Inv-loop μ-loop
 unfolding isMask

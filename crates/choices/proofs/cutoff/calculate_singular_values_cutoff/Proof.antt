@@ -32,7 +32,10 @@ first-below-requires c κs = search needs
 
 returns-3 : tie.Need-returns-3
 unfolding cutoffCall cutoffNumber cutoff
-returns-3 c = rw (inside 1 mostEntries _ (omega (arith, c .before .before .before .if1 .left)) (c .before .before .if2 .left)) (ap (λ (k : ℕ). told (At k)) (c .first-below .ensures ∙ rw (c .before .sum-squares .ensures)))
+returns-3 c =
+    let s = c .before in
+    let few = inside 1 mostEntries _ (omega (arith, s .before .before .if1 .left)) (s .before .if2 .left) in
+    rw few (ap (λ (k : ℕ). told (At k)) (c .first-below .ensures ∙ rw (s .sum-squares .ensures)))
 
 pub calculate-singular-values-cutoff-spec : {M : Type 1} → statement M
 calculate-singular-values-cutoff-spec =

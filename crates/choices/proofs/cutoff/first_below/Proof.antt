@@ -4,7 +4,7 @@ use borrow.Author.Needs.{needs}
 use mathlib.Core.Path.{_≡_, sym, _∙_}
 use mathlib.Core.Bool.{true, false}
 use mathlib.Core.List.{List}
-use Prim.Native.Nat.{ℕ, _-_, _<_, _≤_}
+use Prim.Native.Nat.{ℕ, _-_, _≤_}
 use native.Mathlib.Omega.{arith}
 use lib.Ieee.{Float, nan}
 use lib.ListN.{length, getD, drop}
@@ -64,7 +64,8 @@ loop-again : tie.Need-loop-again Inv-loop μ-loop
 loop-again c =
     let i = c .before .before in
     let l = i .before .loop in
-    (omega (arith, l .inv .0), more i, first-here (values i) (at i) (i .loop-test .taken) (l .inv .0) (bound i) (more i) (of-not _ false (c .if1 .left)))
+    let here = first-here (values i) (at i) (i .loop-test .taken) (l .inv .0) (bound i) (more i) (of-not _ false (c .if1 .left)) in
+    (omega (arith, l .inv .0), more i, here)
 
 returns-2 : tie.Need-returns-2 Inv-loop μ-loop
 returns-2 c =

@@ -38,8 +38,10 @@ loop-less c = search needs
 
 loop-again : tie.Need-loop-again Inv-loop μ-loop
 loop-again c =
-    let s = c .before .before .before in
-    (omega (arith, s .loop .inv .0), squares-more (c .before .before .before .before .args .values .now) (s .loop .i) (c .before .before .loop-test .taken) (s .loop .inv .0) (s .loop .inv .1))
+    let i = c .before .before in
+    let h = i .before in
+    let v = h .loop .inv in
+    (omega (arith, v .0), squares-more (h .before .args .values .now) (h .loop .i) (i .loop-test .taken) (v .0) (v .1))
 
 returns : tie.Need-returns Inv-loop μ-loop
 returns c = let none : c .before .loop .i ≡ 0 = omega arith in rw none at (c .before .loop .inv .1)

@@ -49,10 +49,13 @@ abbrev past-six : tie.Else6 → tie.Else5
 past-six c = c .before .before
 
 -- the two lengths that are tested against the nodes' number
-values-fit : (c : tie.Else4) → let a = c .before .before .before .before .before .before .before .before .before .args in a .lent .values ≡ a .order ^ a .dimension * a .rows
+values-fit : (c : tie.Else4) →
+    let a = c .before .before .before .before .before .before .before .before .before .args in a .lent .values ≡
+    a .order ^ a .dimension * a .rows
 values-fit c = c .if4 .left ∙ ap (λ (n : ℕ). n * c .before .before .before .before .before .before .before .before .before .args .rows) (c .before .before .before .before .before .before .before .before .power .ensures)
 
-gradients-fit : (c : tie.Else5) → let a = c .before .before .before .before .before .before .before .before .before .before .before .before .args in a .lent .gradients ≡ sizeIf (a .with-gradients) (a .dimension * a .order ^ a .dimension * a .rows)
+gradients-fit : (c : tie.Else5) →
+    let a = c .before .before .before .before .before .before .before .before .before .before .before .before .args in a .lent .gradients ≡ sizeIf (a .with-gradients) (a .dimension * a .order ^ a .dimension * a .rows)
 gradients-fit c =
     let a = c .before .before .before .before .before .before .before .before .before .before .before .before .args in
     c .if5 .left ∙ c .before .before .size-if .ensures ∙ ap (λ (n : ℕ). sizeIf (a .with-gradients) (a .dimension * n * a .rows)) (c .before .before .before .before .before .before .before .before .before .before .before .power .ensures)

@@ -12,7 +12,8 @@ use Rattle.axes.proofs.Stretches.{axesAt}
 all-finite-determined : (list : List Float) (r r' : Bool) → r ≡ allFinite list → r' ≡ allFinite list → r ≡ r'
 all-finite-determined list r r' = coincide r r' (allFinite list)
 
-scale-points-determined : (D P : ℕ) (side : Float) (centre points exit exit' : List Float) → exit ≡ columnMajor P D (coordinate P side centre points) →
+scale-points-determined : (D P : ℕ) (side : Float) (centre points exit exit' : List Float) →
+    exit ≡ columnMajor P D (coordinate P side centre points) →
     exit' ≡ columnMajor P D (coordinate P side centre points) → exit ≡ exit'
 scale-points-determined D P side centre points exit exit' = coincide exit exit' (columnMajor P D (coordinate P side centre points))
 

@@ -28,7 +28,8 @@ part list at n = take (at + n - at) (drop at list)
 -- THE POINTS, coordinateIn axis by axis in place
 
 module _ (D P : ℕ) (l : Float) (centre before : List Float) where
-  pub axis-coordinateIn : length before ≡ D * P → (now next : List Float) (axis at : ℕ) → Stepping 0 D P (cell P (coordinate P l centre before)) before now axis at → axis < D →
+  pub axis-coordinateIn : length before ≡ D * P → (now next : List Float) (axis at : ℕ) →
+      Stepping 0 D P (cell P (coordinate P l centre before)) before now axis at → axis < D →
       next ≡ stretch at P (λ i. coordinateIn l (getD centre axis nan) (getD now (at + i) nan)) now → Stepping 0 D P (cell P (coordinate P l centre before)) before next (axis + 1) (at + P)
   axis-coordinateIn whole now next axis at h m e =
       let place : at ≡ axis * P = h .place ∙ zero-add (axis * P) in

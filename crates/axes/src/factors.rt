@@ -107,8 +107,8 @@ fn fill_axis(
     ensures { λ _. ⌜ (now (factors .exit) ≡ stretch at (cell .order * cell .rows)
         (atNodes (S (cell .order) (now («node_polynomials» .entry))) (cell .rows) (now (points .entry))) (now (factors .entry))) ×
         (now (slopes .exit) ≡ cond «with_gradients» (stretch at (cell .order * cell .rows)
-        (atNodes (S′ (cell .order) (cell .side) (now («node_polynomials» .entry))) (cell .rows) (now (points .entry))) (now (slopes .entry)))
-        (now (slopes .entry))) ⌝ }
+        (atNodes (S′ (cell .order) (cell .side) (now («node_polynomials» .entry))) (cell .rows) (now (points .entry)))
+        (now (slopes .entry))) (now (slopes .entry))) ⌝ }
 {
     let order = cell.order;
     let rows = cell.rows;
@@ -139,8 +139,8 @@ pub fn fill_axes(
     ensures { λ _. ⌜ (now (factors .exit) ≡ columnMajor (cell .rows) (cell .dimension * cell .order)
         (onAxes (S (cell .order) (now («node_polynomials» .entry))) (cell .order) (matrix (cell .rows) (now (points .entry))))) ×
         (now (slopes .exit) ≡ cond «with_gradients» (columnMajor (cell .rows) (cell .dimension * cell .order)
-        (onAxes (S′ (cell .order) (cell .side) (now («node_polynomials» .entry))) (cell .order) (matrix (cell .rows) (now (points .entry)))))
-        (now (slopes .entry))) ⌝ }
+        (onAxes (S′ (cell .order) (cell .side) (now («node_polynomials» .entry))) (cell .order)
+        (matrix (cell .rows) (now (points .entry))))) (now (slopes .entry))) ⌝ }
 {
     let dimension = cell.dimension;
     let order = cell.order;

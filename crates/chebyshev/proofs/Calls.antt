@@ -66,7 +66,8 @@ module _ (p P : ℕ) (with : Bool) (x v d : List Float) (r : ℕ) (e : r ≡ pol
   unfolding polynomialsCall
   polynomials-refused = call-refused₂ r _ (atPoints T p P x) v (cond with (atPoints T′ p P x) []) d e
 
-  pub polynomials-done : (v' d' : List Float) → r ≡ 0 → v' ≡ atPoints T p P x → d' ≡ cond with (atPoints T′ p P x) [] → (0, v', d') ≡ polynomialsCall p P with x v d
+  pub polynomials-done : (v' d' : List Float) → r ≡ 0 → v' ≡ atPoints T p P x → d' ≡ cond with (atPoints T′ p P x) [] →
+      (0, v', d') ≡ polynomialsCall p P with x v d
   unfolding polynomialsCall
   polynomials-done = call-done₂ r _ (atPoints T p P x) v (cond with (atPoints T′ p P x) []) d e
 

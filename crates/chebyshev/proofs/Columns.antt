@@ -86,7 +86,8 @@ module _ (rows : ℕ) (x : List Float) where
   abbrev entryT′ : ℕ → ℕ → Float
   entryT′ i j = T′ j (getD x i nan)
 
-  module _ (l now : List Float) (j at : ℕ) (e : at ≡ j * rows) (fits : at + rows ≤ length l) (made : now ≡ stretch 0 at (cell rows entryT) l) where
+  module _ (l now : List Float) (j at : ℕ) (e : at ≡ j * rows) (fits : at + rows ≤ length l)
+      (made : now ≡ stretch 0 at (cell rows entryT) l) where
     -- T before, where it stands
     value-before : (k i : ℕ) → j ≡ suc k → i < rows → getD now (at - rows + i) nan ≡ T k (getD x i nan)
     value-before k i q h = rw made (back-one rows entryT l k i at h (rw q at e))

@@ -7,7 +7,8 @@ use lib.Ieee.{Float}
 use Rattle.common.proofs.Determined.{coincide}
 use Rattle.coefficients.specs.Coefficients.{Memory, coefficientsCall}
 
-get-approximation-coefficients-determined : (dimension order rows : ℕ) (side : Float) (with : Bool) (centre polynomials : List Float) (lent : Memory) →
+get-approximation-coefficients-determined : (dimension order rows : ℕ) (side : Float) (with : Bool)
+    (centre polynomials : List Float) (lent : Memory) →
     (r r' : ℕ × Memory) → r ≡ coefficientsCall dimension order rows side with centre polynomials lent →
     r' ≡ coefficientsCall dimension order rows side with centre polynomials lent → r ≡ r'
 get-approximation-coefficients-determined dimension order rows side with centre polynomials lent r r' =

@@ -65,8 +65,10 @@ started (suc (suc (suc zero))) (suc (suc zero)) v f h least most b x y z = rw (x
 started (suc (suc (suc zero))) (suc (suc (suc g))) v f h least most b x y z = absurd (omega arith)
 started (suc (suc (suc (suc D)))) g v f h least most b x y z = absurd (omega arith)
 
-module _ (D p P g s t : ℕ) (starts factors : List Float) (shape : Shape D p) (axis : g < D) (second : s ≡ secondAxis D g) (third : t ≡ thirdAxis D g) where
-  pub sources : P ≤ 4096 → length starts ≡ D * p * P → length factors ≡ D * p * P → Sources D p P (three g s t) (three starts factors factors)
+module _ (D p P g s t : ℕ) (starts factors : List Float) (shape : Shape D p) (axis : g < D) (second : s ≡ secondAxis D g)
+    (third : t ≡ thirdAxis D g) where
+  pub sources : P ≤ 4096 → length starts ≡ D * p * P → length factors ≡ D * p * P →
+      Sources D p P (three g s t) (three starts factors factors)
   sources few a b =
       record {
         shape = shape;
@@ -75,7 +77,9 @@ module _ (D p P g s t : ℕ) (starts factors : List Float) (shape : Shape D p) (
         long = each-three starts factors factors (λ l. length l ≡ D * p * P) a b b;
       }
 
-  pub started-columns : (columns : ℕ) → columnMajor P columns (productOf D p P (three g s t) (three starts factors factors)) ≡ columnMajor P columns (startedOf D p P g starts factors)
+  pub started-columns : (columns : ℕ) →
+      columnMajor P columns (productOf D p P (three g s t) (three starts factors factors)) ≡
+      columnMajor P columns (startedOf D p P g starts factors)
   unfolding three
   started-columns columns =
       column-cong P _ columns _
@@ -94,7 +98,8 @@ products-at zero f h t = absurd (omega arith)
 products-at (suc n) f h t = products-others n f ∙ ap (λ (x : Float). others 0 x (suc n) f) (one-times (f 0) t)
 
 -- the same start and the same factors
-pub others-cong : (g : ℕ) (v w : Float) (n : ℕ) (f h : ℕ → Float) → v ≡ w → ((a : ℕ) → a < n → (a ≡ g → ⊥) → f a ≡ h a) → others g v n f ≡ others g w n h
+pub others-cong : (g : ℕ) (v w : Float) (n : ℕ) (f h : ℕ → Float) → v ≡ w → ((a : ℕ) → a < n → (a ≡ g → ⊥) → f a ≡ h a) →
+    others g v n f ≡ others g w n h
 unfolding others
 others-cong g v w zero f h e same = e
 others-cong g v w (suc n) f h e same =
@@ -120,7 +125,8 @@ unfolding chain
 chain-cong zero f g h = h zero
 chain-cong (suc n) f g h = rw (chain-cong n f g h, h (suc n))
 
-module _ (D p P k f s t : ℕ) (F S T : List Float) (a b c : ℕ) (ea : a ≡ placeOf D p P k f) (eb : b ≡ placeOf D p P k s) (ec : c ≡ placeOf D p P k t) where
+module _ (D p P k f s t : ℕ) (F S T : List Float) (a b c : ℕ) (ea : a ≡ placeOf D p P k f) (eb : b ≡ placeOf D p P k s)
+    (ec : c ≡ placeOf D p P k t) where
   parts-read : (i : ℕ) → i < P → (m : ℕ) →
       getD (three (part F a P) (part S b P) (part T c P) m) i nan ≡ getD (three F S T m) (placeOf D p P k (three f s t m) + i) nan
   unfolding three

@@ -18,7 +18,8 @@ use Rattle.coefficients.specs.Working.{startedOf, gradientOf}
 
 -- A COLUMN that a call was lent, and has filled
 
-pub column-lent : (P columns : ℕ) (f : ℕ → ℕ → Float) (before now filled : List Float) (n at : ℕ) (g : ℕ → Float) → length before ≡ columns * P →
+pub column-lent : (P columns : ℕ) (f : ℕ → ℕ → Float) (before now filled : List Float) (n at : ℕ) (g : ℕ → Float) →
+    length before ≡ columns * P →
     Stepping 0 columns P (cell P f) before now n at → n < columns → filled ≡ tabulate P g → ((i : ℕ) → i < P → g i ≡ f i n) →
     Stepping 0 columns P (cell P f) before (putMid at (at + P - at) now filled) (n + 1) (at + P)
 column-lent P columns f before now filled n at g long h l e same =

@@ -43,8 +43,9 @@ fn fill_coefficients(
     fill_started(cell, 0, factors, factors, values);
 }
 
-// What each node of a cell counts for at each of the points, which become reference coordinates in place: one row a point, one column
-// a node, the last axis fastest; and, if wanted, the slopes of that along each axis, axis after axis. The last two buffers are room to work in.
+// What each node of a cell counts for at each of the points, which become reference coordinates in place: one row a point, one
+// column a node, the last axis fastest; and, if wanted, the slopes of that along each axis, axis after axis. The last two buffers
+// are room to work in.
 pub fn get_approximation_coefficients(
     cell: Cell,
     with_gradients: bool,

@@ -18,14 +18,16 @@ use Rattle.common.proofs.Cases.{by-lt}
 
 -- ONE VALUE: two floats of the format with one size and sign have the same bits, so they are the same
 
-bits-same : (f : Format) (s : Bool) (m n : ℕ) (e d : ℤ) → m * up e * down d ≡ n * up d * down e → toBits f (fin s m e) ≡ toBits f (fin s n d)
+bits-same : (f : Format) (s : Bool) (m n : ℕ) (e d : ℤ) → m * up e * down d ≡ n * up d * down e →
+    toBits f (fin s m e) ≡ toBits f (fin s n d)
 unfolding toBits
 bits-same f s m n e d h =
     let across : m * up e * 2 ^ low f * down d ≡ n * up d * 2 ^ low f * down e =
     mul-right-comm (m * up e) (2 ^ low f) (down d) ∙ ap (λ (k : ℕ). k * 2 ^ low f) h ∙ mul-right-comm (n * up d) (down e) (2 ^ low f) in
     rw (div-same (m * up e * 2 ^ low f) (down e) (n * up d * 2 ^ low f) (down d) (down-pos e) (down-pos d) across)
 
-valued : (f : Format) (x : Float) (s : Bool) (n : ℕ) (d : ℤ) → T (fits f x) → T (fits f (fin s n d)) → HasValue x s (n * up d) (down d) → x ≡ fin s n d
+valued : (f : Format) (x : Float) (s : Bool) (n : ℕ) (d : ℤ) → T (fits f x) → T (fits f (fin s n d)) →
+    HasValue x s (n * up d) (down d) → x ≡ fin s n d
 valued f nan s n d p q v = absurd v
 valued f (inf t) s n d p q v = absurd v
 valued f (fin t m e) s n d p q v =

@@ -86,7 +86,8 @@ module _ (D p child i o f s : ℕ) where
 
     module _ (l : child < 2 ^ D) where
       -- the last test, once the others have passed
-      lengths-tested : (t : Bool) → eqb i (p ^ D) && (eqb o ((p + p) * p) && (eqb f (p ^ D) && eqb s (p ^ D))) ≡ t → cond t 0 7 ≡ transferNumber D p child i o f s
+      lengths-tested : (t : Bool) → eqb i (p ^ D) && (eqb o ((p + p) * p) && (eqb f (p ^ D) && eqb s (p ^ D))) ≡ t →
+          cond t 0 7 ≡ transferNumber D p child i o f s
       unfolding transferNumber
       lengths-tested t e = rw (shape-in D p ok .0, shape-in D p ok .1, lt-ltb child (2 ^ D) l, e)
 
@@ -117,7 +118,8 @@ module _ (D p child i o f s : ℕ) where
       let c = equal-and f (p ^ D) _ (b .1) in
       record { shape = shape .0; input = a .0; operators = b .0; first = c .0; second = eqb-true _ _ (c .1) }
 
-module _ (D p child : ℕ) (transpose : Bool) (i o f s : List Float) (r : ℕ) (e : r ≡ transferNumber D p child (length i) (length o) (length f) (length s)) where
+module _ (D p child : ℕ) (transpose : Bool) (i o f s : List Float) (r : ℕ)
+    (e : r ≡ transferNumber D p child (length i) (length o) (length f) (length s)) where
   pub transfer-refused : (r ≡ 0 → ⊥) → (r, f, s) ≡ transferCall D p child transpose i o f s
   unfolding transferCall
   transfer-refused = call-refused₂ r _ (transferred D p child transpose i o s .0) f (transferred D p child transpose i o s .1) s e

@@ -37,7 +37,8 @@ T-next k x t next h h' =
 -- A WHOLE COLUMN, summed and scaled, after those before it
 
 module _ (p : ℕ) (nodes poly : List Float) where
-  pub column-done : (l start summed : List Float) (c at : ℕ) (x factor offset : Float) → at ≡ c * p → at + p ≤ length l → x ≡ childNode p nodes c →
+  pub column-done : (l start summed : List Float) (c at : ℕ) (x factor offset : Float) → at ≡ c * p → at + p ≤ length l →
+      x ≡ childNode p nodes c →
       factor ≡ over two₆₄ (float p) → offset ≡ over one₆₄ (float p) →
       start ≡ stretch 0 at (cell p (operator p nodes poly)) l → summed ≡ stretch at p (partOf p poly x p) start → length start ≡ length l →
       stretch at p (λ i. minus (times (getD summed (at + i) nan) factor) offset) summed ≡ stretch 0 (at + p) (cell p (operator p nodes poly)) l

@@ -14,7 +14,8 @@ get-m2m-transfer-operators-determined : (order : ℕ) (nodes polynomials operato
 get-m2m-transfer-operators-determined order nodes polynomials operators exit exit' r r' =
     coincide (r, exit) (r', exit') (operatorsCall order nodes polynomials operators)
 
-apply-cheb-tensor-transfer-determined : (dimension order child : ℕ) (transpose : Bool) (input operators first second f f' s s' : List Float) (r r' : ℕ) →
+apply-cheb-tensor-transfer-determined : (dimension order child : ℕ) (transpose : Bool)
+    (input operators first second f f' s s' : List Float) (r r' : ℕ) →
     (r, f, s) ≡ transferCall dimension order child transpose input operators first second →
     (r', f', s') ≡ transferCall dimension order child transpose input operators first second →
     _≡_ {A = ℕ × List Float × List Float} (r, f, s) (r', f', s')

@@ -71,7 +71,8 @@ sum-more values strip before from s at e h =
     rw e (sums-more (λ n. times (getD values (from + n) nan) (matrix 4 strip k n)) s (getD before k nan) sum))
 
 -- a column's sum, where it is read
-pub column-sum : (p : ℕ) (values strip sums : List Float) (from c k : ℕ) → k < 4 → from ≡ c * p → sums ≡ tabulate 4 (summed p values from strip) →
+pub column-sum : (p : ℕ) (values strip sums : List Float) (from c k : ℕ) → k < 4 → from ≡ c * p →
+    sums ≡ tabulate 4 (summed p values from strip) →
     spaced sums 0 1 k ≡ summed p values (c * p) strip k
 column-sum p values strip sums from c k b e h =
     let place : 0 + 1 * k ≡ k = omega arith in
@@ -109,12 +110,14 @@ module _ (p width : ℕ) (values operator : ℕ → ℕ → Float) where
       ∙ fill-on at (rows * width) (cell width output) (cell width rows-on) l on (omega arith))
 
   -- all rows are filled
-  pub rows-all : (l : List Float) (at : ℕ) → length l ≡ p * width → at ≡ p * width → stretch 0 at (cell width output) l ≡ passed p width values operator
+  pub rows-all : (l : List Float) (at : ℕ) → length l ≡ p * width → at ≡ p * width →
+      stretch 0 at (cell width output) l ≡ passed p width values operator
   unfolding passed
   rows-all l at h e = rw e (columns-filled width output p l h)
 
   -- and depend on the operator's entries alone
-  pub passed-cong : (other : ℕ → ℕ → Float) → ((r s : ℕ) → r < p → s < p → operator r s ≡ other r s) → passed p width values operator ≡ passed p width values other
+  pub passed-cong : (other : ℕ → ℕ → Float) → ((r s : ℕ) → r < p → s < p → operator r s ≡ other r s) →
+      passed p width values operator ≡ passed p width values other
   unfolding passed
   passed-cong other same =
       column-cong width output p (λ c r. inner p (λ s. values s c) (other r))
@@ -148,7 +151,8 @@ module _ (pass : ℕ → ℕ → List Float → List Float) (D w v : ℕ) (wide 
   unfolding ends
   axes-two f s e hs hf = rw (hf, hs, wide, e)
 
-  pub axes-three : (f s t : List Float) → D ≡ 3 → s ≡ pass w (D - 1) first → f ≡ pass w (D - 2) s → t ≡ pass w 0 f → (f, t) ≡ ends (pass v) D first second
+  pub axes-three : (f s t : List Float) → D ≡ 3 → s ≡ pass w (D - 1) first → f ≡ pass w (D - 2) s → t ≡ pass w 0 f →
+      (f, t) ≡ ends (pass v) D first second
   unfolding ends
   axes-three f s t e hs hf ht = rw (ht, hf, hs, wide, e)
 

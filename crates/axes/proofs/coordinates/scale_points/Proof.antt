@@ -19,7 +19,8 @@ abbrev μ-loop : tie.MeasureT-loop
 μ-loop dimension rows length centre points₀ axis₀ at₀ points axis at = dimension - axis
 
 -- there is room for the axis
-room : (c : tie.In-loop Inv-loop μ-loop) → c .before .loop .at + c .before .before .before .before .args .rows ≤ length (c .before .loop .points)
+room : (c : tie.In-loop Inv-loop μ-loop) →
+    c .before .loop .at + c .before .before .before .before .args .rows ≤ length (c .before .loop .points)
 room c =
     let s = c .before .before .before .before in
     let a = s .args in

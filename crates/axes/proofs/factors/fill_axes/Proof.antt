@@ -27,17 +27,20 @@ abbrev μ-loop : tie.MeasureT-loop
 μ-loop box with-gradients points node-polynomials values₀ gradients₀ factors₀ slopes₀ dimension order rows count derived axis₀ from₀ at₀ values gradients factors slopes axis from at = dimension - axis
 
 -- the axis's points, and the room for its columns
-axis-room : (c : tie.In-loop Inv-loop μ-loop) → let a = c .before .before .before .before .before .before .before .before .before .args in c .before .loop .from + a .cell .rows ≤ a .cell .dimension * a .cell .rows
+axis-room : (c : tie.In-loop Inv-loop μ-loop) →
+    let a = c .before .before .before .before .before .before .before .before .before .args in c .before .loop .from + a .cell .rows ≤ a .cell .dimension * a .cell .rows
 axis-room c =
     let a = c .before .before .before .before .before .before .before .before .before .args in
     column-fits (c .before .loop .axis) (a .cell .dimension) (a .cell .rows) (c .before .loop .from) (c .loop-test .taken) (c .before .loop .inv .0)
 
-more : (c : tie.In-loop Inv-loop μ-loop) → let a = c .before .before .before .before .before .before .before .before .before .args in c .before .loop .axis * (a .cell .order * a .cell .rows) + a .cell .order * a .cell .rows ≤ a .cell .dimension * a .cell .order * a .cell .rows
+more : (c : tie.In-loop Inv-loop μ-loop) →
+    let a = c .before .before .before .before .before .before .before .before .before .args in c .before .loop .axis * (a .cell .order * a .cell .rows) + a .cell .order * a .cell .rows ≤ a .cell .dimension * a .cell .order * a .cell .rows
 more c =
     let a = c .before .before .before .before .before .before .before .before .before .args in
     rw mul-assoc (column-fits (c .before .loop .axis) (a .cell .dimension) (a .cell .order * a .cell .rows) _ (c .loop-test .taken) refl)
 
-room : (c : tie.In-loop Inv-loop μ-loop) → let a = c .before .before .before .before .before .before .before .before .before .args in c .before .loop .at + a .cell .order * a .cell .rows ≤ a .cell .dimension * a .cell .order * a .cell .rows
+room : (c : tie.In-loop Inv-loop μ-loop) →
+    let a = c .before .before .before .before .before .before .before .before .before .args in c .before .loop .at + a .cell .order * a .cell .rows ≤ a .cell .dimension * a .cell .order * a .cell .rows
 room c = omega (arith, more c, c .before .loop .inv .4 .place)
 
 mul-count : tie.Need-mul-count Inv-loop μ-loop

@@ -23,7 +23,8 @@ abbrev μ-loop : tie.MeasureT-loop
 μ-loop order rows polynomials node node-polynomials at out₀ from₀ place₀ k₀ out from place k = order - k
 
 -- the node's polynomial is one of those lent
-inside : (c : tie.In-loop Inv-loop μ-loop) → c .before .loop .place < c .before .before .before .before .before .before .before .before .before .args .order * c .before .before .before .before .before .before .before .before .before .args .order
+inside : (c : tie.In-loop Inv-loop μ-loop) →
+    c .before .loop .place < c .before .before .before .before .before .before .before .before .before .args .order * c .before .before .before .before .before .before .before .before .before .args .order
 inside c = rw (c .before .loop .inv .2) (digits-lt (c .loop-test .taken) (c .before .before .before .before .before .before .before .before .before .pre .1))
 
 fill-with-requires : tie.Need-fill-with-requires Inv-loop μ-loop

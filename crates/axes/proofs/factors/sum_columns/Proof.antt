@@ -18,7 +18,8 @@ abbrev μ-loop : tie.MeasureT-loop
 μ-loop order rows polynomials node-polynomials at out₀ node₀ to₀ out node to = order - node
 
 -- there is room for the column
-room : (c : tie.In-loop Inv-loop μ-loop) → c .before .loop .to + c .before .before .before .before .before .args .rows ≤ length (c .before .loop .out)
+room : (c : tie.In-loop Inv-loop μ-loop) →
+    c .before .loop .to + c .before .before .before .before .before .args .rows ≤ length (c .before .loop .out)
 room c =
     let s = c .before .before .before .before .before in
     let a = s .args in

@@ -23,7 +23,8 @@ abbrev μ-loop : tie.MeasureT-loop
 μ-loop order rows points tn₀ dtn₀ j₀ at₀ tn dtn j at = order - j
 
 -- the column has its place
-room : (t : tie.In-loop Inv-loop μ-loop) → let a = t .before .before .before .before .before .args in t .before .loop .at + a .rows ≤ a .order * a .rows
+room : (t : tie.In-loop Inv-loop μ-loop) →
+    let a = t .before .before .before .before .before .args in t .before .loop .at + a .rows ≤ a .order * a .rows
 room t = let a = t .before .before .before .before .before .args in column-fits (t .before .loop .j) (a .order) (a .rows) (t .before .loop .at) (t .loop-test .taken) (t .before .loop .inv .1)
 
 loop-holds : tie.Need-loop-holds Inv-loop μ-loop

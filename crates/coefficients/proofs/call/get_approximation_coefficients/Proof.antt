@@ -14,12 +14,18 @@ same-length c = search needs
 returns : tie.Need-returns
 returns c =
     let a = c .before .before .before .before .before .before .before .before .before .before .args in
-    coefficients-refused (a .cell .dimension) (a .cell .order) (a .cell .rows) (a .cell .side) (a .with-gradients) (a .centre .now) (a .node-polynomials .now) (a .points .now) (a .values .now) (a .gradients .now) (a .factors .now) (a .slopes .now) _ (c .before .coefficients-number .ensures) (c .if1 .taken)
+    coefficients-refused (a .cell .dimension) (a .cell .order) (a .cell .rows) (a .cell .side) (a .with-gradients) (a .centre .now)
+    (a .node-polynomials .now) (a .points .now) (a .values .now) (a .gradients .now) (a .factors .now) (a .slopes .now) _
+    (c .before .coefficients-number .ensures) (c .if1 .taken)
+
+-- `e` is the place past the test
 
 fill-coefficients-requires : tie.Need-fill-coefficients-requires
 fill-coefficients-requires c κs =
-    let a = c .before .before .before .before .before .before .before .before .before .before .before .before .before .before .before .args in
-    let h = number-taken (a .cell .dimension) (a .cell .order) (a .cell .rows) (a .cell .side) (a .centre .now) (a .points .now) _ (sym (c .before .before .before .before .before .before .coefficients-number .ensures) ∙ c .before .before .before .before .before .if1 .left) in
+    let e = c .before .before .before .before .before in
+    let a = e .before .before .before .before .before .before .before .before .before .before .args in
+    let h = number-taken (a .cell .dimension) (a .cell .order) (a .cell .rows) (a .cell .side) (a .centre .now) (a .points .now) _
+    (sym (e .before .coefficients-number .ensures) ∙ e .if1 .left) in
     admitted (a .cell .dimension) (a .cell .order) (a .cell .rows) (a .with-gradients) _ (h .0) (h .1) (h .2)
 
 same-length-2 : tie.Need-same-length-2
@@ -39,8 +45,11 @@ same-length-6 c = search needs
 
 returns-2 : tie.Need-returns-2
 returns-2 c =
-    let a = c .before .before .before .before .before .before .before .before .before .before .before .before .before .before .before .before .before .before .before .before .before .before .before .before .before .before .args in
-    coefficients-done (a .cell .dimension) (a .cell .order) (a .cell .rows) (a .cell .side) (a .with-gradients) (a .centre .now) (a .node-polynomials .now) (a .points .now) (a .values .now) (a .gradients .now) (a .factors .now) (a .slopes .now) _ (c .before .before .before .before .before .before .before .before .before .before .before .before .before .before .before .before .before .coefficients-number .ensures) _ (c .before .before .before .before .before .before .before .before .before .before .before .before .before .before .before .before .if1 .left) (c .before .before .before .before .before .before .before .before .before .before .fill-coefficients .ensures)
+    let e = c .before .before .before .before .before .before .before .before .before .before .before .before .before .before .before .before in
+    let a = e .before .before .before .before .before .before .before .before .before .before .args in
+    coefficients-done (a .cell .dimension) (a .cell .order) (a .cell .rows) (a .cell .side) (a .with-gradients) (a .centre .now)
+    (a .node-polynomials .now) (a .points .now) (a .values .now) (a .gradients .now) (a .factors .now) (a .slopes .now) _
+    (e .before .coefficients-number .ensures) _ (e .if1 .left) (c .before .before .before .before .before .before .before .before .before .before .fill-coefficients .ensures)
 
 pub get-approximation-coefficients-spec : {M : Type 1} → statement M
 get-approximation-coefficients-spec =

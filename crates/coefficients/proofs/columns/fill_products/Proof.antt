@@ -29,7 +29,8 @@ abbrev μ-loop : tie.MeasureT-loop
 μ-loop box axes first second third out₀ rows nodes node₀ at₀ out node at = nodes - node
 
 -- the column has its place
-room : (c : tie.In-loop Inv-loop μ-loop) → c .before .loop .at + c .before .before .before .before .before .before .before .args .cell .rows ≤ length (c .before .loop .out)
+room : (c : tie.In-loop Inv-loop μ-loop) →
+    c .before .loop .at + c .before .before .before .before .before .before .before .args .cell .rows ≤ length (c .before .loop .out)
 room c =
     let s = c .before .before .before .before .before .before .before in
     let a = s .args in

@@ -16,13 +16,15 @@ use Rattle.coefficients.proofs.limits.coefficients_number.Tie as tie
 shape : (c : tie.Else1) → let a = c .before .before .before .before .args in Shape (a .cell .dimension) (a .cell .order)
 shape c = let a = c .before .before .before .before .args in shape-taken (a .cell .dimension) (a .cell .order) (sym (c .before .shape-number .ensures) ∙ c .if1 .left)
 
-fit : (c : tie.Else3) → let a = c .before .before .before .before .before .before .before .args in lengthsFit (a .cell .dimension) (a .cell .order) (a .cell .rows) (a .with-gradients) (a .lent) ≡ true
+fit : (c : tie.Else3) →
+    let a = c .before .before .before .before .before .before .before .args in lengthsFit (a .cell .dimension) (a .cell .order) (a .cell .rows) (a .with-gradients) (a .lent) ≡ true
 fit c = sym (c .before .lengths-fit .ensures) ∙ of-not _ false (c .if3 .left)
 
 is-cell : (c : tie.Else4) → isCell (c .before .before .before .before .before .before .before .before .before .args .cell .side) ≡ true
 is-cell c = sym (c .before .is-cell .ensures) ∙ of-not _ false (c .if4 .left)
 
-finite-points : (c : tie.Else5) → allFinite (c .before .before .before .before .before .before .before .before .before .before .before .args .points .now) ≡ true
+finite-points : (c : tie.Else5) →
+    allFinite (c .before .before .before .before .before .before .before .before .before .before .before .args .points .now) ≡ true
 finite-points c = sym (c .before .all-finite .ensures) ∙ of-not _ false (c .if5 .left)
 
 -- THE RETURNS

@@ -23,7 +23,8 @@ abbrev μ-loop : tie.MeasureT-loop
 μ-loop order nodes polynomials operators₀ factor offset c₀ at₀ operators c at = order + order - c
 
 -- the column has its place
-fits : (i : tie.In-loop Inv-loop μ-loop) → i .before .loop .at + i .before .before .before .before .before .before .before .args .order ≤ length (i .before .loop .operators)
+fits : (i : tie.In-loop Inv-loop μ-loop) →
+    i .before .loop .at + i .before .before .before .before .before .before .before .args .order ≤ length (i .before .loop .operators)
 fits i =
     let l = i .before .loop in
     let s = i .before .before .before .before .before .before .before in

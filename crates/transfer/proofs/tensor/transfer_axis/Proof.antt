@@ -10,7 +10,8 @@ use Rattle.transfer.proofs.tensor.transfer_axis.Statement.{statement}
 use Rattle.transfer.proofs.tensor.transfer_axis.Tie as tie
 
 -- the block has its place: the side is 0 or 1
-fits : (c : tie.After-side-of) → let a = c .before .before .before .before .args in c .side-of .result * (a .order * a .order) + a .order * a .order ≤ length (a .operators .now)
+fits : (c : tie.After-side-of) →
+    let a = c .before .before .before .before .args in c .side-of .result * (a .order * a .order) + a .order * a .order ≤ length (a .operators .now)
 fits c =
     let s = c .before .before .before .before in
     let two : c .side-of .result < 2 = rw (c .side-of .ensures) (mod-lt _ (omega arith)) in

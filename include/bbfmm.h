@@ -48,8 +48,8 @@ enum {
 
 /* Why a cross approximation ended. */
 enum {
-    BBFMM_STOP_TOLERABLE = 1, /* the last term is small against the estimate: norm <= epsilon^2 * estimate */
-    BBFMM_STOP_SPENT = 2,     /* the row that was read has no pivot of 2^-52 or more */
+    BBFMM_STOP_TOLERABLE = 1, /* the last term is small against the estimate: norm <= (epsilon*epsilon) * estimate */
+    BBFMM_STOP_SPENT = 2,     /* the pivot of the row that was read is below 2^-52 in size; a NaN is not */
     BBFMM_STOP_USED_UP = 3    /* there are as many terms as the block has rows or columns */
 };
 
@@ -58,7 +58,7 @@ enum {
 /*
  * Looks up the vector (x, y, z) between two blocks.
  * answer: 4 entries. The vector's index among all of its dimension, the first axis slowest; its case; the number of its reference
- *     vector; 1 if it is near, else 0.
+ *     vector; 1 if it is near, else 0. A near vector has no reference: its number 0 names none.
  * Refuses with 1, 4, 6, 7.
  */
 uint8_t bbfmm_look_up(size_t dimension, int32_t x, int32_t y, int32_t z, size_t *answer, size_t answer_length);
@@ -187,8 +187,8 @@ uint8_t bbfmm_argmax_masked(
     const double *entries, size_t entries_length, const uint8_t *mask, size_t mask_length, size_t *place, size_t place_length);
 
 /*
- * The first place from which on the squares of the singular values, summed from the end, come to less than all of them times
- * epsilon squared; or how many there are.
+ * The first place from which on the squares of the singular values, summed from the end, come to less than
+ * (total*epsilon)*epsilon, total being the sum of all; or how many there are.
  * values: 1 to 1,024 entries.
  * place: 1 entry.
  * Refuses with 3, 7.
@@ -199,13 +199,13 @@ uint8_t bbfmm_calculate_singular_values_cutoff(
 /* CROSS APPROXIMATION */
 
 /*
- * A block of at most 1,024 rows and 1,024 columns as U times the transpose of V, up to the tolerance epsilon. With m rows, n
- * columns, and k for the lesser of the two:
+ * Approximates a block of at most 1,024 rows and 1,024 columns by U times the transpose of V. The run stops by its own test, which
+ * sees only the rows and columns that it read: epsilon bounds no error. With m rows, n columns, and k for the lesser of the two:
  * samples: m by n, the block.
  * u: m by k, and v: n by k. A column of each becomes a term; as many as the rank says, and the others stay as lent.
  * row_list, column_list: k entries each. They become the rows that were read in order, and the columns; unused places stay as lent.
  * row: n entries, and column: m entries, room to work in. They become the row and the column that were last worked on, the row
- *     scaled to 1 at its pivot if it had one; what was not worked on stays as lent.
+ *     multiplied by 1/pivot if it had one; what was not worked on stays as lent.
  * counts: 3 entries. They become the rank, why the run ended, a BBFMM_STOP, and how many rows were read. As many columns were read
  *     as the rank says.
  * estimate: 1 entry. It becomes the estimate of the approximation's squared norm.

@@ -8,9 +8,9 @@ use crate::sys;
 #[derive(Clone, Copy, Debug, PartialEq, Eq, Hash)]
 #[repr(u8)]
 pub enum Stop {
-    /// The last term is small against the estimate: norm <= epsilon^2 * estimate.
+    /// The last term is small against the estimate: norm <= (epsilon*epsilon) * estimate.
     Tolerable = 1,
-    /// The row that was read has no pivot of 2^-52 or more.
+    /// The pivot of the row that was read is below 2^-52 in size; a NaN is not.
     Spent = 2,
     /// There are as many terms as the block has rows or columns.
     UsedUp = 3,
@@ -67,8 +67,9 @@ pub struct Buffers<'a> {
     pub column: &'a mut [f64],
 }
 
-/// A block of at most 1,024 rows and 1,024 columns as U times the transpose of V, up to the
-/// tolerance epsilon.
+/// Approximates a block of at most 1,024 rows and 1,024 columns by U times the transpose of V. The
+/// run stops by its own test, which sees only the rows and columns that it read: epsilon bounds no
+/// error.
 ///
 /// - `samples`: rows by columns, the block.
 ///

@@ -30,7 +30,7 @@ pub fn argmax_masked(entries: &[f64], mask: &[u8]) -> Result<usize, Refusal> {
 }
 
 /// The first place from which on the squares of the singular values, summed from the end, come to
-/// less than all of them times epsilon squared; or how many there are.
+/// less than (total*epsilon)*epsilon, total being the sum of all; or how many there are.
 ///
 /// - `values`: 1 to 1,024 entries.
 ///

@@ -82,7 +82,7 @@ fn run(
     report(USED_UP, s, read)
 }
 
-// The block as a sum of products of columns, U by V, up to the tolerance epsilon; and the rows and columns that were read for it.
+// Terms whose sum, U by V, approximates the block until the run's own test stops it; and the rows and columns that were read for it.
 pub fn aca_partial_pivoting(
     rows: usize,
     columns: usize,

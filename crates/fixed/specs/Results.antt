@@ -38,7 +38,8 @@ lent x i = memory (four x x x x) (four x x x x) (two i i) (two i i) (two x x) (t
 
 pub record Fixed : Type 0 where
   -- D=3 (0,-2,1): index 158, case 33, reference 1
-  pub vector-158 : lookUp 3 (pos 0, negsuc 1, pos 1) ≡ toldLookUp (look.Found (record { index = 158; case = 33; reference = 1; near = false }))
+  pub vector-158 :
+      lookUp 3 (pos 0, negsuc 1, pos 1) ≡ toldLookUp (look.Found (record { index = 158; case = 33; reference = 1; near = false }))
   -- D=1 (-3): 0, 0, 1
   pub vector-0 : lookUp 1 (negsuc 2, pos 0, pos 0) ≡ toldLookUp (look.Found (record { index = 0; case = 0; reference = 1; near = false }))
   -- D=2 (3,3): 48, 6, 6

@@ -62,8 +62,9 @@ module _ (D p : ℕ) (ok : Shape D p) where
   unfolding tableCall
   filled k f l b e = sym (call-done 0 _ (tabulate (p ^ D) f) l (sym (table-taken k l b e)) (tabulate (p ^ D) f) refl refl)
 
--- THE THEOREM
-module _ (D p : ℕ) (v : Vector) (table inverse : List ℕ) (ok : Shape D p) (w : FarVector D v) (lt : length table ≡ p ^ D) (lu : length inverse ≡ p ^ D) where
+-- THE THEOREM: D from 1 to 3, p from 1 to 16, a far vector with zeros past D, tables of N entries
+module _ (D p : ℕ) (v : Vector) (table inverse : List ℕ) (ok : Shape D p) (w : FarVector D v)
+    (lt : length table ≡ p ^ D) (lu : length inverse ≡ p ^ D) where
   pub calls-are-right : CallsAreRight D p v table inverse
   unfolding lookUp knownOf referenceCall
   calls-are-right =
@@ -74,7 +75,8 @@ module _ (D p : ℕ) (v : Vector) (table inverse : List ℕ) (ok : Shape D p) (w
         known = knownOf D e;
         looked-up = sym (answer-done (lookUpNumber D (sizes e)) (knownOf D e) _ (look-up-taken D p ok v w) refl);
         onto = referenceAt D i;
-        referred = sym (answer-done (referenceNumber D i) (referenceAt D i) _ (reference-taken D p ok i (reference-below D e (w .far))) refl);
+        referred = sym (answer-done (referenceNumber D i) (referenceAt D i) _
+            (reference-taken D p ok i (reference-below D e (w .far))) refl);
         filled = tabulate (p ^ D) (turned D p k);
         combined = filled D p ok k _ table (case-below D e) lt;
         undoing = tabulate (p ^ D) (returned D p k);

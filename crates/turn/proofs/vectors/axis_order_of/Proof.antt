@@ -9,7 +9,8 @@ use Rattle.turn.proofs.vectors.axis_order_of.Tie as tie
 
 returns : tie.Need-returns
 unfolding axisOrderBy
-returns c = let s = c .before in rw (lt-ltb (s .args .dimension) 2 (c .if1 .taken)) at (axisOrder-by (s .args .dimension) (s .args .s) (s .pre))
+returns c = let s = c .before in rw (lt-ltb (s .args .dimension) 2 (c .if1 .taken)) at
+    (axisOrder-by (s .args .dimension) (s .args .s) (s .pre))
 
 swapped-requires : tie.Need-swapped-requires
 swapped-requires c κs = search needs
@@ -19,7 +20,8 @@ unfolding axisOrderBy
 returns-2 c =
     let s = c .before .before .before in
     let d = s .args .dimension in
-    c .swapped .ensures ∙ rw (le-ltb d 2 (c .before .before .if1 .left), lt-ltb d 3 (c .before .if2 .taken)) at (axisOrder-by d (s .args .s) (s .pre))
+    c .swapped .ensures ∙ rw (le-ltb d 2 (c .before .before .if1 .left), lt-ltb d 3 (c .before .if2 .taken)) at
+    (axisOrder-by d (s .args .s) (s .pre))
 
 returns-3 : tie.Need-returns-3
 unfolding axisOrderBy
@@ -27,8 +29,13 @@ returns-3 c =
     let s = c .before .before .before .before .before .before in
     let d = s .args .dimension in
     let x = s .args .s in
-    rw
-    (le-ltb d 2 (omega arith), le-ltb d 3 (omega arith), lt-ltb (x .0) (x .1) (c .before .before .if3 .taken), lt-ltb (x .1) (x .2) (c .if4 .taken)) at
+    rw (
+      le-ltb d 2 (omega arith),
+      le-ltb d 3 (omega arith),
+      lt-ltb (x .0) (x .1) (c .before .before .if3 .taken),
+      lt-ltb (x .1) (x .2)
+          (c .if4 .taken),
+    ) at
     (axisOrder-by d x (s .pre))
 
 swapped-requires-2 : tie.Need-swapped-requires-2
@@ -44,7 +51,13 @@ returns-4 c =
     let d = s .args .dimension in
     let x = s .args .s in
     rw (c .swapped2 .ensures)
-    (rw (le-ltb d 2 (omega arith), le-ltb d 3 (omega arith), lt-ltb (x .0) (x .1) (c .before .before .before .if3 .taken), le-ltb (x .1) (x .2) (c .before .if4 .left)) at (axisOrder-by d x (s .pre)))
+    (rw (
+      le-ltb d 2 (omega arith),
+      le-ltb d 3 (omega arith),
+      lt-ltb (x .0) (x .1) (c .before .before .before .if3 .taken),
+      le-ltb (x .1)
+          (x .2) (c .before .if4 .left),
+    ) at (axisOrder-by d x (s .pre)))
 
 returns-5 : tie.Need-returns-5
 unfolding axisOrderBy
@@ -52,8 +65,13 @@ returns-5 c =
     let s = c .before .before .before .before .before .before in
     let d = s .args .dimension in
     let x = s .args .s in
-    rw
-    (le-ltb d 2 (omega arith), le-ltb d 3 (omega arith), le-ltb (x .0) (x .1) (c .before .before .if3 .left), lt-ltb (x .0) (x .2) (c .if5 .taken)) at
+    rw (
+      le-ltb d 2 (omega arith),
+      le-ltb d 3 (omega arith),
+      le-ltb (x .0) (x .1) (c .before .before .if3 .left),
+      lt-ltb (x .0) (x .2)
+          (c .if5 .taken),
+    ) at
     (axisOrder-by d x (s .pre))
 
 swapped-requires-3 : tie.Need-swapped-requires-3
@@ -65,8 +83,13 @@ returns-6 c =
     let s = c .before .before .before .before .before .before .before in
     let d = s .args .dimension in
     let x = s .args .s in
-    c .swapped3 .ensures ∙ rw
-    (le-ltb d 2 (omega arith), le-ltb d 3 (omega arith), le-ltb (x .0) (x .1) (c .before .before .before .if3 .left), le-ltb (x .0) (x .2) (c .before .if5 .left)) at
+    c .swapped3 .ensures ∙ rw (
+      le-ltb d 2 (omega arith),
+      le-ltb d 3 (omega arith),
+      le-ltb (x .0) (x .1) (c .before .before .before .if3 .left),
+      le-ltb (x .0) (x .2)
+          (c .before .if5 .left),
+    ) at
     (axisOrder-by d x (s .pre))
 
 pub axis-order-of-spec : {M : Type 1} → statement M

@@ -4,7 +4,6 @@ ghost use mathlib.Core.Bool.{cond};
 ghost use Prim.Native.Nat.{_+_, _-_, _*_, _^_, _<_, _≤_};
 ghost use lib.Ieee.{nan};
 ghost use lib.ListN.{length, getD};
-ghost use Rattle.common.specs.Digits.{digit};
 ghost use Rattle.common.specs.Floats.{times};
 ghost use Rattle.common.specs.Lists.{tabulate};
 ghost use Rattle.common.specs.Matrices.{columnMajor};
@@ -19,21 +18,6 @@ struct Order {
     third: usize,
 }
 
-// A node's index on an axis.
-fn index_on(dimension: usize, order: usize, axis: usize, node: usize) -> usize
-    requires { ⌜ Shape dimension order × (axis < dimension) ⌝ }
-    ensures { λ r. ⌜ r ≡ digit order dimension axis node ⌝ }
-{
-    let after = dimension - 1 - axis;
-    if after == 0 {
-        return node % order;
-    }
-    if after == 1 {
-        return node / order % order;
-    }
-    node / (order * order) % order
-}
-
 // Where the column of a node's index on an axis begins in a buffer.
 fn place_of(cell: Cell, axis: usize, node: usize) -> usize
     requires { ⌜ Shape (cell .dimension) (cell .order) × (cell .rows ≤ mostPoints) × (axis < cell .dimension) ⌝ }
@@ -41,7 +25,7 @@ fn place_of(cell: Cell, axis: usize, node: usize) -> usize
 {
     let dimension = cell.dimension;
     let order = cell.order;
-    (axis * order + index_on(dimension, order, axis, node)) * cell.rows
+    (axis * order + common::index_on(dimension, order, axis, node)) * cell.rows
 }
 
 fn multiply_two(rows: usize, first: &[f64], second: &[f64], column: &mut [f64])

@@ -1,13 +1,13 @@
--- `coefficients::columns::index_on` meets its contract, by how many axes come after. Assumes nothing.
+-- `common::index_on` meets its contract, by how many axes come after. Assumes nothing.
 use borrow.Author.Needs.{needs}
 use Prim.Native.Nat.{_-_}
 use native.Mathlib.Nat.{mul-le-mul, pow-zero, div-one}
 use native.Mathlib.Omega.{arith}
 use mathlib.Core.Path.{_≡_}
 use Rattle.common.specs.Digits.{digit}
 use Rattle.common.proofs.Limits.{power-one, power-two}
-use Rattle.coefficients.proofs.columns.index_on.Statement.{statement}
-use Rattle.coefficients.proofs.columns.index_on.Tie as tie
+use Rattle.common.proofs.index_on.Statement.{statement}
+use Rattle.common.proofs.index_on.Tie as tie
 
 sub-after : tie.Need-sub-after
 sub-after c = search needs

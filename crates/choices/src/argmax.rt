@@ -4,18 +4,19 @@ ghost use Rattle.choices.specs.Argmax.{isMask, argmaxCall};
 ghost use Rattle.choices.specs.Places.{told};
 use crate::Place;
 
-// Every byte is 0 or 1.
+// Every byte is 0 or 1. Going on after a wrong byte lets the compiler take many bytes at a time.
 fn is_mask(mask: &[u8]) -> bool
     ensures { λ r. ⌜ r ≡ isMask (now (mask .entry)) ⌝ }
 {
+    let mut are = true;
     let mut k = 0;
     while k < mask.len() {
         if 1 < mask[k] {
-            return false;
+            are = false;
         }
         k += 1;
     }
-    true
+    are
 }
 
 // The first place of the largest size among the entries whose byte in the mask is 1; 0 where none has a size above 0.

@@ -1,5 +1,6 @@
 -- `aca::run::aca_partial_pivoting` meets its contract. Assumes nothing.
 use borrow.Author.Needs.{needs}
+use Rattle.aca_steps.specs.Memories.{Memory, memory}
 use Rattle.aca.proofs.Answers.{refused, begun, finished}
 use Rattle.aca.proofs.run.aca_partial_pivoting.Statement.{statement}
 use Rattle.aca.proofs.run.aca_partial_pivoting.Tie as tie
@@ -14,6 +15,22 @@ flagged c = c .before .before .before .before .before .before .before .before
 abbrev start : tie.After-aca-number → tie.Start
 start c = c .before .before .before .before .before .before .before .before
 
+-- the memory as it was lent, and after the run
+abbrev lent : tie.After-aca-number → Memory
+lent c =
+    let a = start c .args in
+    memory (a .u .now) (a .v .now) (a .row-list .now) (a .column-list .now) (a .row .now) (a .column .now)
+
+abbrev after : tie.After-run → Memory
+after c =
+    memory
+    (c .run .last .1 .1 .0)
+    (c .run .last .1 .1 .1 .0)
+    (c .run .last .1 .1 .1 .1 .1 .1 .0)
+    (c .run .last .1 .1 .1 .1 .1 .1 .1 .0)
+    (c .run .last .1 .1 .1 .1 .1 .1 .1 .1 .0)
+    (c .run .last .1 .1 .1 .1 .1 .1 .1 .1 .1 .0)
+
 aca-number-requires : tie.Need-aca-number-requires
 aca-number-requires c κs = search needs
 
@@ -21,7 +38,7 @@ returns : tie.Need-returns
 returns c =
     let n = c .before in
     let a = start n .args in
-    refused (a .rows) (a .columns) (a .samples .now) (a .epsilon) _ _ (n .aca-number .ensures) (c .if1 .taken)
+    refused (a .rows) (a .columns) (a .samples .now) (a .epsilon) (lent n) (n .aca-number .result) (n .aca-number .ensures) (c .if1 .taken)
 
 all-on-requires : tie.Need-all-on-requires
 all-on-requires c κs = search needs
@@ -35,7 +52,7 @@ run-requires c κs =
     let o = f .before .before in
     let n = o .before in
     let a = start n .args in
-    begun (a .rows) (a .columns) (a .samples .now) (a .epsilon) _ _ (n .aca-number .ensures) (o .if1 .left)
+    begun (a .rows) (a .columns) (a .samples .now) (a .epsilon) (lent n) (n .aca-number .result) (n .aca-number .ensures) (o .if1 .left)
     _ _ (f .before .all-on .ensures) (f .all-on2 .ensures)
 
 same-length : tie.Need-same-length
@@ -62,7 +79,8 @@ returns-2 c =
     let o = flagged (r .before) .before .before in
     let n = o .before in
     let a = start n .args in
-    finished (a .rows) (a .columns) (a .samples .now) (a .epsilon) _ _ (n .aca-number .ensures) (o .if1 .left) _ _ (r .run .ensures)
+    finished (a .rows) (a .columns) (a .samples .now) (a .epsilon) (lent n) (n .aca-number .result) (n .aca-number .ensures) (o .if1 .left)
+    (r .run .result) (after r) (r .run .ensures)
 
 pub aca-partial-pivoting-spec : {M : Type 1} → statement M
 aca-partial-pivoting-spec =

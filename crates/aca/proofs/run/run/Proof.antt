@@ -3,10 +3,11 @@
 use borrow.Author.Needs.{needs}
 use mathlib.Core.Path.{_≡_, refl}
 use mathlib.Core.List.{List}
-use Prim.Native.Nat.{_-_, _+_, _<_, _^_}
+use Prim.Native.Nat.{_-_, _<_}
 use native.Mathlib.Omega.{arith}
 use lib.Ieee.{Float}
 use lib.ListN.{length}
+use Rattle.common.specs.Refusals.{mostEntries}
 use Rattle.aca_steps.specs.Memories.{Memory, memory}
 use Rattle.aca.proofs.Repeated.{Alike, alike-both, Going, going-none, ends, ready, stops, goes}
 use Rattle.aca.proofs.run.run.Statement.{statement}
@@ -61,8 +62,8 @@ module _ (c : tie.In-loop Inv-loop μ-loop) where
   left : c .before .loop .read < length (start (c .before) .args .row-list .now)
   left = rw (c .before .loop .inv .0) at (c .loop-test .taken)
 
-  small : c .before .loop .read + 1 < 2 ^ 64
-  small = let s = start (c .before) .pre in omega (arith, left, s .short, s .sizes .tall)
+  few : c .before .loop .read < mostEntries
+  few = let s = start (c .before) .pre in omega (arith, left, s .short, s .sizes .tall)
 
 -- after the step: the lengths stay
 module _ (c : tie.After-advance Inv-loop μ-loop) where
@@ -112,7 +113,7 @@ enum-known-made-2 : tie.Need-enum-known-made-2 Inv-loop μ-loop
 enum-known-made-2 c = search needs
 
 add-report : tie.Need-add-report Inv-loop μ-loop
-add-report c = record { fits = small (from (stepped c)) }
+add-report c = omega (arith, few (from (stepped c)))
 
 report-requires : tie.Need-report-requires Inv-loop μ-loop
 report-requires c κs = search needs
@@ -145,7 +146,7 @@ returns c =
     _ (after a) _ _ (a .advance .ensures) _ _ (c .before .before .made2 .given .1))
 
 add-read : tie.Need-add-read Inv-loop μ-loop
-add-read c = record { fits = small (from (stepped-on c)) }
+add-read c = omega (arith, few (from (stepped-on c)))
 
 loop-less : tie.Need-loop-less Inv-loop μ-loop
 loop-less c = omega (arith, from (stepped-on c) .loop-test .taken)

@@ -1,26 +1,69 @@
 -- `bbfmm::aca_calls::bbfmm_aca_partial_pivoting` meets its contract: slices that do not fit, or what the run answers, in numbers. Assumes nothing.
 use borrow.Author.Needs.{needs}
+use mathlib.Core.List.{List}
+use Prim.Native.Nat.{ℕ}
+use lib.Ieee.{Float}
+use Rattle.aca_steps.specs.Memories.{Memory, memory}
 use Rattle.bbfmm.proofs.Reports.{fit-both, unfit-counts, unfit-estimate, cross-unfit, cross-fit}
 use Rattle.bbfmm.proofs.aca_calls.bbfmm_aca_partial_pivoting.Statement.{statement}
 use Rattle.bbfmm.proofs.aca_calls.bbfmm_aca_partial_pivoting.Tie as tie
+
+-- THE PLACES, each from the one after it: the slices' lengths are tested, the call is made, its report is told
+abbrev start : tie.Else1 → tie.Start
+start c = c .before .before .before .before .before .before .before .before .before .before
+
+abbrev start' : tie.Then1 → tie.Start
+start' c = c .before .before .before .before .before .before .before .before .before .before
+
+abbrev fitting : tie.After-aca-partial-pivoting → tie.Else2
+fitting c = c .before .before .before .before .before .before .before
+
+abbrev made : tie.After-tell-report → tie.After-aca-partial-pivoting
+made c = c .before .before .before .before .before .before .before .before .before .before .before .before .before .before .before
+
+-- what was lent, and what the call leaves
+module _ (s : tie.Start) where
+  abbrev lent : Memory
+  lent =
+      let a = s .args in
+      memory (a .u .now) (a .v .now) (a .row-list .now) (a .column-list .now) (a .row .now) (a .column .now)
+
+  abbrev counts : List ℕ
+  counts = s .args .counts .now
+
+  abbrev estimate : List Float
+  estimate = s .args .estimate .now
+
+abbrev after : tie.After-aca-partial-pivoting → Memory
+after c =
+    memory
+    (c .aca-partial-pivoting .last .1 .1 .1 .1 .0)
+    (c .aca-partial-pivoting .last .1 .1 .1 .1 .1 .0)
+    (c .aca-partial-pivoting .last .1 .1 .1 .1 .1 .1 .0)
+    (c .aca-partial-pivoting .last .1 .1 .1 .1 .1 .1 .1 .0)
+    (c .aca-partial-pivoting .last .1 .1 .1 .1 .1 .1 .1 .1 .0)
+    (c .aca-partial-pivoting .last .1 .1 .1 .1 .1 .1 .1 .1 .1 .0)
 
 unfit-number-requires : tie.Need-unfit-number-requires
 unfit-number-requires c κs = search needs
 
 returns : tie.Need-returns
 returns c =
-    let a = c .before .before .before .before .before .before .before .before .before .before .before .args in
-    cross-unfit (a .rows) (a .columns) (a .samples .now) (a .epsilon) _ _ _ _ (c .unfit-number .ensures)
-    (unfit-counts (a .counts .now) (a .estimate .now) (c .before .if1 .taken))
+    let s = start' (c .before) in
+    let a = s .args in
+    cross-unfit (a .rows) (a .columns) (a .samples .now) (a .epsilon) (lent s) (counts s) (estimate s) (c .unfit-number .result)
+    (c .unfit-number .ensures) (unfit-counts (counts s) (estimate s) (c .before .if1 .taken))
 
 unfit-number-requires-2 : tie.Need-unfit-number-requires-2
 unfit-number-requires-2 c κs = search needs
 
 returns-2 : tie.Need-returns-2
 returns-2 c =
-    let a = c .before .before .before .before .before .before .before .before .before .before .before .before .args in
-    cross-unfit (a .rows) (a .columns) (a .samples .now) (a .epsilon) _ _ _ _ (c .unfit-number2 .ensures)
-    (unfit-estimate (a .counts .now) (a .estimate .now) (c .before .before .if1 .left) (c .before .if2 .taken))
+    let o = c .before .before in
+    let s = start o in
+    let a = s .args in
+    cross-unfit (a .rows) (a .columns) (a .samples .now) (a .epsilon) (lent s) (counts s) (estimate s) (c .unfit-number2 .result)
+    (c .unfit-number2 .ensures) (unfit-estimate (counts s) (estimate s) (o .if1 .left) (c .before .if2 .taken))
 
 aca-partial-pivoting-requires : tie.Need-aca-partial-pivoting-requires
 aca-partial-pivoting-requires c κs = search needs
@@ -55,12 +98,14 @@ same-length-8 c = search needs
 returns-3 : tie.Need-returns-3
 returns-3 c =
     let told = c .before .before .before .before in
-    let made = told .before .before .before .before .before .before .before .before .before .before .before .before .before .before .before in
-    let passed = made .before .before .before .before .before .before .before in
-    let a = passed .before .before .before .before .before .before .before .before .before .before .before .args in
-    cross-fit (a .rows) (a .columns) (a .samples .now) (a .epsilon) _ _ _ (made .aca-partial-pivoting .result) _ _ _ _
-    (fit-both (a .counts .now) (a .estimate .now) (passed .before .if1 .left) (passed .if2 .left))
-    (made .aca-partial-pivoting .ensures) (told .tell-report .ensures)
+    let m = made told in
+    let f = fitting m in
+    let s = start (f .before) in
+    let a = s .args in
+    let t = told .tell-report in
+    cross-fit (a .rows) (a .columns) (a .samples .now) (a .epsilon) (lent s) (counts s) (estimate s)
+    (m .aca-partial-pivoting .result) (after m) (t .result) (t .last .1 .0) (t .last .1 .1 .0)
+    (fit-both (counts s) (estimate s) (f .before .if1 .left) (f .if2 .left)) (m .aca-partial-pivoting .ensures) (t .ensures)
 
 pub bbfmm-aca-partial-pivoting-spec : {M : Type 1} → statement M
 bbfmm-aca-partial-pivoting-spec =

@@ -12,7 +12,7 @@ ghost use Rattle.coefficients.specs.Working.{three, chain, placeOf, prod
 use axes::Cell;
 
 // The axes of a product's sources, in their order; those past the dimension are not read.
-struct Order {
+struct ThreeAxes {
     first: usize,
     second: usize,
     third: usize,
@@ -79,7 +79,7 @@ fn multiply(
 // The column of one node.
 fn fill_product(
     cell: Cell,
-    axes: Order,
+    axes: ThreeAxes,
     node: usize,
     first: &[f64],
     second: &[f64],
@@ -112,7 +112,7 @@ fn fill_product(
 // The columns of all nodes, the last axis fastest.
 fn fill_products(
     cell: Cell,
-    axes: Order,
+    axes: ThreeAxes,
     first: &[f64],
     second: &[f64],
     third: &[f64],
@@ -170,7 +170,7 @@ pub(crate) fn fill_started(
     ensures { λ _. ⌜ now (out .exit) ≡ columnMajor (cell .rows) (cell .order ^ cell .dimension)
         (startedOf (cell .dimension) (cell .order) (cell .rows) axis (now (starts .entry)) (now (factors .entry))) ⌝ }
 {
-    let axes = Order {
+    let axes = ThreeAxes {
         first: axis,
         second: second_axis(cell.dimension, axis),
         third: third_axis(cell.dimension, axis),

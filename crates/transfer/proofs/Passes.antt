@@ -20,7 +20,7 @@ use Rattle.common.proofs.Rows.{row-place, rows-more}
 use Rattle.common.proofs.Stores.{length-stores}
 use Rattle.common.proofs.Sums.{sums-more, sums-cong}
 use Rattle.transfer.specs.Tensor.{passed, directed, operatorHalf, along, ends}
-use Rattle.transfer.specs.Working.{Laid, added, summed}
+use Rattle.transfer.specs.Working.{StripOf, added, summed}
 
 -- THE BLOCK of the operators: the lower starts at 0, and the upper past p columns of p entries
 
@@ -53,8 +53,8 @@ module _ (p r : ℕ) (l : List Float) (transpose : Bool) where
   row-standing e s = rw (e, row-place p r s)
 
 -- a further row is laid
-pub lay-more : (p : ℕ) (operator : ℕ → ℕ → Float) (first k : ℕ) (now after : List Float) → p ≤ 16 → k < 4 → Laid p operator first k now →
-    after ≡ stores (λ s. k + 4 * s) (operator (first + k)) p now → Laid p operator first (k + 1) after
+pub lay-more : (p : ℕ) (operator : ℕ → ℕ → Float) (first k : ℕ) (now after : List Float) → p ≤ 16 → k < 4 → StripOf p operator first k now →
+    after ≡ stores (λ s. k + 4 * s) (operator (first + k)) p now → StripOf p operator first (k + 1) after
 lay-more p operator first k now after most lane h e =
     let room : p * 4 ≤ length now = omega (arith, h .long) in
     record {
@@ -94,7 +94,7 @@ module _ (p width : ℕ) (values operator : ℕ → ℕ → Float) where
 
   -- the rows that a strip gives go on where the last ended
   pub strip-filled : (l now strip part : List Float) (r rows at end : ℕ) → at ≡ r * width → end ≡ at + rows * width → end ≤ length l →
-      Laid p operator r rows strip → part ≡ columnMajor width rows (λ c k. inner p (λ s. values s c) (matrix 4 strip k)) →
+      StripOf p operator r rows strip → part ≡ columnMajor width rows (λ c k. inner p (λ s. values s c) (matrix 4 strip k)) →
       length now ≡ length l → now ≡ stretch 0 at (cell width output) l →
       putMid at (end - at) now part ≡ stretch 0 end (cell width output) l
   unfolding columnMajor

@@ -20,7 +20,7 @@ abbrev pub Spaced : (count from step long : ℕ) → Type 0
 Spaced count from step long = (k : ℕ) → k < count → from + step * k < long
 
 -- A STRIP holds some rows of an operator with p columns, side by side in four lanes: entry (first + k, s) at k + 4 * s
-pub record Laid (p : ℕ) (operator : ℕ → ℕ → Float) (first rows : ℕ) (strip : List Float) : Type 0 where
+pub record StripOf (p : ℕ) (operator : ℕ → ℕ → Float) (first rows : ℕ) (strip : List Float) : Type 0 where
   pub long : length strip ≡ 64
   pub entries : (k s : ℕ) → k < rows → s < p → matrix 4 strip k s ≡ operator (first + k) s
 

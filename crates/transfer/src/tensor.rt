@@ -7,7 +7,7 @@ ghost use Rattle.common.specs.Lists.{tabulate, stores};
 ghost use Rattle.common.specs.Matrices.{matrix, columnMajor};
 ghost use Rattle.common.specs.Refusals.{Shape};
 ghost use Rattle.transfer.specs.Tensor.{directed, passed, along, ends, transferNumber, transferCall};
-ghost use Rattle.transfer.specs.Working.{Spaced, Laid, added, summed};
+ghost use Rattle.transfer.specs.Working.{Spaced, StripOf, added, summed};
 
 // How many rows of the operator a pass takes at a time.
 const LANES: usize = 4;
@@ -55,7 +55,7 @@ fn lay_strip(
     strip: &mut [f64],
 )
     requires { ⌜ (order ≤ 16) × (first + rows ≤ order) × (rows ≤ 4) × (length (now block) ≡ order * order) × (length (now strip) ≡ 64) ⌝ }
-    ensures { λ _. ⌜ Laid order (directed transpose (matrix order (now (block .entry)))) first rows (now (strip .exit)) ⌝ }
+    ensures { λ _. ⌜ StripOf order (directed transpose (matrix order (now (block .entry)))) first rows (now (strip .exit)) ⌝ }
 {
     let mut k = 0;
     while k < rows {

@@ -5,14 +5,14 @@ use native.Mathlib.Nat.{not-suc-le-zero}
 use native.Mathlib.Omega.{arith}
 use Rattle.common.specs.Matrices.{matrix}
 use Rattle.transfer.specs.Tensor.{directed}
-use Rattle.transfer.specs.Working.{Laid}
+use Rattle.transfer.specs.Working.{StripOf}
 use Rattle.transfer.proofs.Passes.{lay-more}
 use borrow.Author.Needs.{needs}
 use Rattle.transfer.proofs.tensor.lay_strip.Statement.{statement}
 use Rattle.transfer.proofs.tensor.lay_strip.Tie as tie
 
 abbrev Inv-loop : tie.InvT-loop
-Inv-loop order block transpose first rows strip₀ k₀ strip k = (k ≤ rows) × Laid order (directed transpose (matrix order block)) first k strip
+Inv-loop order block transpose first rows strip₀ k₀ strip k = (k ≤ rows) × StripOf order (directed transpose (matrix order block)) first k strip
 
 abbrev μ-loop : tie.MeasureT-loop
 μ-loop order block transpose first rows strip₀ k₀ strip k = rows - k

@@ -1,8 +1,10 @@
 // The terms of a run, u in one matrix and v in another, a column a term: their sums, their weight, and one more.
 ghost use mathlib.Core.Path.{_≡_};
 ghost use Prim.Native.Nat.{_+_, _*_, _<_, _≤_};
-ghost use lib.ListN.{length};
-ghost use Rattle.aca_lines.specs.Lines.{multiplied, asColumn, norm as normOf, cross as crossOf};
+ghost use lib.Ieee.{nan};
+ghost use lib.ListN.{length, getD};
+ghost use Rattle.common.specs.Floats.{inner};
+ghost use Rattle.aca_lines.specs.Lines.{entry, multiplied, asColumn, norm as normOf, cross as crossOf};
 ghost use Rattle.aca_lines.specs.Working.{summed};
 
 // Writes the sum of the first k columns of a matrix, each times a factor: entry `at` of each column of another.
@@ -45,6 +47,17 @@ pub fn norm(column: &[f64], row: &[f64]) -> f64
     a * b
 }
 
+// The product of a line with the column of a matrix that begins at place `at`: as a stretch of its own, so that the compiler takes
+// several entries a turn.
+fn dot_with(terms: &[f64], at: usize, line: &[f64]) -> f64
+    requires { ⌜ at + length (now line) ≤ length (now terms) ⌝ }
+    ensures { λ r. ⌜ r ≡ inner (length (now (line .entry))) (λ i. getD (now (terms .entry)) (at + i) nan) (entry (now (line .entry))) ⌝ }
+{
+    let n = line.len();
+    let end = at + n;
+    common::dot(n, &terms[at..end], 0, 1, line, 0, 1)
+}
+
 // What the new term has in common with the k earlier ones.
 pub fn cross(k: usize, u: &[f64], v: &[f64], column: &[f64], row: &[f64]) -> f64
     requires { ⌜ (k * length (now column) ≤ length (now u)) × (k * length (now row) ≤ length (now v)) ⌝ }
@@ -55,8 +68,8 @@ pub fn cross(k: usize, u: &[f64], v: &[f64], column: &[f64], row: &[f64]) -> f64
     let mut sum = 0.0;
     let mut l = 0;
     while l < k {
-        let a = common::dot(m, u, l * m, 1, column, 0, 1);
-        let b = common::dot(n, v, l * n, 1, row, 0, 1);
+        let a = dot_with(u, l * m, column);
+        let b = dot_with(v, l * n, row);
         sum = sum + a * b;
         l += 1;
     }

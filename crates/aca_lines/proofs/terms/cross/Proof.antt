@@ -11,7 +11,6 @@ use Rattle.common.proofs.Sums.{sums-more}
 use Rattle.common.specs.Floats.{inner}
 use Rattle.common.specs.Matrices.{matrix}
 use Rattle.aca_lines.specs.Lines.{entry, cross}
-use Rattle.aca_lines.proofs.Lines.{column-in, whole-in, dot-line}
 use Rattle.aca_lines.proofs.terms.cross.Statement.{statement}
 use Rattle.aca_lines.proofs.terms.cross.Tie as tie
 
@@ -25,29 +24,29 @@ loop-holds : tie.Need-loop-holds Inv-loop μ-loop
 unfolding cross sums
 loop-holds c = (refl, refl, omega arith, refl)
 
-mul-dot : tie.Need-mul-dot Inv-loop μ-loop
-mul-dot c =
+mul-dot-with : tie.Need-mul-dot-with Inv-loop μ-loop
+mul-dot-with c =
     let s = c .before .before .before .before .before .before in
     let room = column-fits (c .before .loop .l) (s .args .k) (length (s .args .column .now)) _ (c .loop-test .taken) refl in
     rw (c .before .loop .inv .0) (omega (arith, room, s .pre .0, s .good))
 
-dot-requires : tie.Need-dot-requires Inv-loop μ-loop
-dot-requires c κs =
+dot-with-requires : tie.Need-dot-with-requires Inv-loop μ-loop
+dot-with-requires c κs =
     let s = c .before .before .before .before .before .before in
     let l = c .before .loop in
-    rw (l .inv .0) (column-in _ (s .args .k) (l .l) _ (c .loop-test .taken) (s .pre .0), whole-in _)
+    rw (l .inv .0) (omega (arith, column-fits (l .l) (s .args .k) (length (s .args .column .now)) _ (c .loop-test .taken) refl, s .pre .0))
 
-mul-dot-2 : tie.Need-mul-dot-2 Inv-loop μ-loop
-mul-dot-2 c =
+mul-dot-with-2 : tie.Need-mul-dot-with-2 Inv-loop μ-loop
+mul-dot-with-2 c =
     let s = c .before .before .before .before .before .before .before in
     let room = column-fits (c .before .before .loop .l) (s .args .k) (length (s .args .row .now)) _ (c .before .loop-test .taken) refl in
     rw (c .before .before .loop .inv .1) (omega (arith, room, s .pre .1, s .good))
 
-dot-requires-2 : tie.Need-dot-requires-2 Inv-loop μ-loop
-dot-requires-2 c κs =
+dot-with-requires-2 : tie.Need-dot-with-requires-2 Inv-loop μ-loop
+dot-with-requires-2 c κs =
     let s = c .before .before .before .before .before .before .before in
     let l = c .before .before .loop in
-    rw (l .inv .1) (column-in _ (s .args .k) (l .l) _ (c .before .loop-test .taken) (s .pre .1), whole-in _)
+    rw (l .inv .1) (omega (arith, column-fits (l .l) (s .args .k) (length (s .args .row .now)) _ (c .before .loop-test .taken) refl, s .pre .1))
 
 add-l : tie.Need-add-l Inv-loop μ-loop
 add-l c = search needs
@@ -62,10 +61,10 @@ loop-again c =
     let l = c .before .before .before .loop in
     let m = length (a .column .now) in
     let n = length (a .row .now) in
-    let first : c .before .dot .result ≡ inner m (λ i. matrix m (a .u .now) i (l .l)) (entry (a .column .now)) =
-    c .before .dot .ensures ∙ rw (l .inv .0) (dot-line m (l .l * m) (a .u .now) (a .column .now)) in
-    let second : c .dot2 .result ≡ inner n (λ i. matrix n (a .v .now) i (l .l)) (entry (a .row .now)) =
-    c .dot2 .ensures ∙ rw (l .inv .1) (dot-line n (l .l * n) (a .v .now) (a .row .now)) in
+    let first : c .before .dot-with .result ≡ inner m (λ i. matrix m (a .u .now) i (l .l)) (entry (a .column .now)) =
+    c .before .dot-with .ensures ∙ rw (l .inv .0) in
+    let second : c .dot-with2 .result ≡ inner n (λ i. matrix n (a .v .now) i (l .l)) (entry (a .row .now)) =
+    c .dot-with2 .ensures ∙ rw (l .inv .1) in
     let u-part : (i : ℕ) → Float = λ i. inner m (λ j. matrix m (a .u .now) j i) (entry (a .column .now)) in
     let v-part : (i : ℕ) → Float = λ i. inner n (λ j. matrix n (a .v .now) j i) (entry (a .row .now)) in
     (l .inv .0, l .inv .1, omega arith, rw (first, second) (sums-more (λ i. times (u-part i) (v-part i)) (l .l) (l .sum) (l .inv .3)))
@@ -83,10 +82,10 @@ cross-spec =
     Inv-loop
     μ-loop
     loop-holds
-    mul-dot
-    dot-requires
-    mul-dot-2
-    dot-requires-2
+    mul-dot-with
+    dot-with-requires
+    mul-dot-with-2
+    dot-with-requires-2
     add-l
     loop-less
     loop-again

@@ -9,7 +9,7 @@ use crate::rule::chebyshev::{cosines, evaluate};
 
 /// What the Rust that was ported answers, written down: the line of an order begins with 'nodes'
 /// and its number.
-const WRITTEN: &str = include_str!("../../../../crates/replay_floats/stdout");
+const WRITTEN: &str = include_str!("../../../../tests/replay/chebyshev.out");
 
 /// The nodes of an order as the Rust's bits.
 fn written(order: usize) -> Vec<u64> {

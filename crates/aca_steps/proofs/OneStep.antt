@@ -130,12 +130,12 @@ module _ (samples : List Float) (tolerance : Float) (s : Progress) (read : ℕ) 
         record {
           answer-is = refl;
           memory-is =
-              let left : k * m ≤ length (t .us) = omega (arith, u-room) in
-              let right : k * n ≤ length (t .vs) = omega (arith, v-room) in
+              let u-long : k * m ≤ length (t .us) = omega (arith, u-room) in
+              let v-long : k * n ≤ length (t .vs) = omega (arith, v-room) in
               let some : k ≤ length (t .«column-list») = omega (arith, ready .term) in
               rw (
-                ← upon-same (k * m) (t .us) left,
-                ← upon-same (k * n) (t .vs) right,
+                ← upon-same (k * m) (t .us) u-long,
+                ← upon-same (k * n) (t .vs) v-long,
                 ← upon-same k (t .«column-list») some,
                 ← upon-set read (s .next) (t .«row-list») (ready .reading),
                 list-is,

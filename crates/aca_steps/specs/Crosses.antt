@@ -110,7 +110,7 @@ outcome r f = record { answer = r; found = f }
 unfoldable pub accepted : (tolerance : Float) → Progress → Found → Outcome
 accepted tolerance s f = outcome (judged tolerance (norm (f .column) (f .row)) (weighed s f)) (stored f)
 
--- a row whose pivot is below 2 ^ -52 gives no term
+-- a row whose pivot's size is below 2 ^ -52 gives no term; the size of a NaN is below nothing
 unfoldable pub tried : Block → (tolerance : Float) → Progress → Found → Pivot → Outcome
 tried b tolerance s f p =
     cond (lt (p .size) tiny₆₄) (outcome (Stop spent s) f) (accepted tolerance s (columnRead b s f (p .place)))

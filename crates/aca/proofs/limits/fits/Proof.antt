@@ -67,38 +67,38 @@ module _ (s : tie.After-least) where
 abbrev at1 : tie.Else1 → tie.After-least
 at1 c = c .before .before
 
-left1 : (c : tie.Else1) → let s = at1 c in fits (m s) (n s) (lent s) ≡ rest1 s
-left1 c = whole (at1 c) ∙ rw (eq-eqb _ _ (c .if1 .left))
+passed1 : (c : tie.Else1) → let s = at1 c in fits (m s) (n s) (lent s) ≡ rest1 s
+passed1 c = whole (at1 c) ∙ rw (eq-eqb _ _ (c .if1 .left))
 
 abbrev at2 : tie.Else2 → tie.After-least
 at2 c = at1 (c .before .before)
 
-left2 : (c : tie.Else2) → let s = at2 c in fits (m s) (n s) (lent s) ≡ rest2 s
-left2 c = left1 (c .before .before) ∙ rw (eq-eqb _ _ (c .if2 .left))
+passed2 : (c : tie.Else2) → let s = at2 c in fits (m s) (n s) (lent s) ≡ rest2 s
+passed2 c = passed1 (c .before .before) ∙ rw (eq-eqb _ _ (c .if2 .left))
 
 abbrev at3 : tie.Else3 → tie.After-least
 at3 c = at2 (c .before .before)
 
-left3 : (c : tie.Else3) → let s = at3 c in fits (m s) (n s) (lent s) ≡ rest3 s
-left3 c = left2 (c .before .before) ∙ rw (eq-eqb _ _ (c .if3 .left))
+passed3 : (c : tie.Else3) → let s = at3 c in fits (m s) (n s) (lent s) ≡ rest3 s
+passed3 c = passed2 (c .before .before) ∙ rw (eq-eqb _ _ (c .if3 .left))
 
 abbrev at4 : tie.Else4 → tie.After-least
 at4 c = at3 (c .before .before)
 
-left4 : (c : tie.Else4) → let s = at4 c in fits (m s) (n s) (lent s) ≡ rest4 s
-left4 c = left3 (c .before .before) ∙ rw (eq-eqb _ _ (c .if4 .left))
+passed4 : (c : tie.Else4) → let s = at4 c in fits (m s) (n s) (lent s) ≡ rest4 s
+passed4 c = passed3 (c .before .before) ∙ rw (eq-eqb _ _ (c .if4 .left))
 
 abbrev at5 : tie.Else5 → tie.After-least
 at5 c = at4 (c .before .before)
 
-left5 : (c : tie.Else5) → let s = at5 c in fits (m s) (n s) (lent s) ≡ rest5 s
-left5 c = left4 (c .before .before) ∙ rw (eq-eqb _ _ (c .if5 .left))
+passed5 : (c : tie.Else5) → let s = at5 c in fits (m s) (n s) (lent s) ≡ rest5 s
+passed5 c = passed4 (c .before .before) ∙ rw (eq-eqb _ _ (c .if5 .left))
 
 abbrev at6 : tie.Else6 → tie.After-least
 at6 c = at5 (c .before .before)
 
-left6 : (c : tie.Else6) → let s = at6 c in fits (m s) (n s) (lent s) ≡ rest6 s
-left6 c = left5 (c .before .before) ∙ rw (eq-eqb _ _ (c .if6 .left))
+passed6 : (c : tie.Else6) → let s = at6 c in fits (m s) (n s) (lent s) ≡ rest6 s
+passed6 c = passed5 (c .before .before) ∙ rw (eq-eqb _ _ (c .if6 .left))
 
 -- THE NEEDS
 
@@ -115,25 +115,25 @@ mul-if2 : tie.Need-mul-if2
 mul-if2 c = omega (arith, u-small (at1 c))
 
 returns-2 : tie.Need-returns-2
-returns-2 c = rw (left1 (c .before .before), ne-eqb _ _ (c .if2 .taken))
+returns-2 c = rw (passed1 (c .before .before), ne-eqb _ _ (c .if2 .taken))
 
 mul-if3 : tie.Need-mul-if3
 mul-if3 c = omega (arith, v-small (at2 c))
 
 returns-3 : tie.Need-returns-3
-returns-3 c = rw (left2 (c .before .before), ne-eqb _ _ (c .if3 .taken))
+returns-3 c = rw (passed2 (c .before .before), ne-eqb _ _ (c .if3 .taken))
 
 returns-4 : tie.Need-returns-4
-returns-4 c = rw (left3 (c .before .before), ne-eqb _ _ (c .if4 .taken))
+returns-4 c = rw (passed3 (c .before .before), ne-eqb _ _ (c .if4 .taken))
 
 returns-5 : tie.Need-returns-5
-returns-5 c = rw (left4 (c .before .before), ne-eqb _ _ (c .if5 .taken))
+returns-5 c = rw (passed4 (c .before .before), ne-eqb _ _ (c .if5 .taken))
 
 returns-6 : tie.Need-returns-6
-returns-6 c = rw (left5 (c .before .before), ne-eqb _ _ (c .if6 .taken))
+returns-6 c = rw (passed5 (c .before .before), ne-eqb _ _ (c .if6 .taken))
 
 returns-7 : tie.Need-returns-7
-returns-7 c = rw (left6 (c .before))
+returns-7 c = rw (passed6 (c .before))
 
 pub fits-spec : {M : Type 1} → statement M
 fits-spec =

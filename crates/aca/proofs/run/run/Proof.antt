@@ -59,11 +59,11 @@ module _ (c : tie.At-loop Inv-loop μ-loop) where
 
 -- inside the loop a step is left
 module _ (c : tie.In-loop Inv-loop μ-loop) where
-  left : c .before .loop .read < length (start (c .before) .args .row-list .now)
-  left = rw (c .before .loop .inv .0) at (c .loop-test .taken)
+  remains : c .before .loop .read < length (start (c .before) .args .row-list .now)
+  remains = rw (c .before .loop .inv .0) at (c .loop-test .taken)
 
   few : c .before .loop .read < mostEntries
-  few = let s = start (c .before) .pre in omega (arith, left, s .short, s .sizes .tall)
+  few = let s = start (c .before) .pre in omega (arith, remains, s .short, s .sizes .tall)
 
 -- after the step: the lengths stay
 module _ (c : tie.After-advance Inv-loop μ-loop) where
@@ -104,7 +104,7 @@ advance-requires : tie.Need-advance-requires Inv-loop μ-loop
 advance-requires c κs =
     let i = stepping c in
     let l = i .before in
-    ready (samples l) (tolerance l) (lent l) _ _ (start l .pre) (held l) _ _ _ _ (going l) (left i)
+    ready (samples l) (tolerance l) (lent l) _ _ (start l .pre) (held l) _ _ _ _ (going l) (remains i)
 
 enum-known-made : tie.Need-enum-known-made Inv-loop μ-loop
 enum-known-made c = search needs
@@ -142,11 +142,14 @@ returns c =
     let i = from a in
     let l = i .before in
     rw (c .report .ensures)
-    (stops (samples l) (tolerance l) (lent l) _ _ (start l .pre) (held l) _ _ _ _ (going l) (left i)
+    (stops (samples l) (tolerance l) (lent l) _ _ (start l .pre) (held l) _ _ _ _ (going l) (remains i)
     _ (after a) _ _ (a .advance .ensures) _ _ (c .before .before .made2 .given .1))
 
 add-read : tie.Need-add-read Inv-loop μ-loop
-add-read c = omega (arith, few (from (stepped-on c)))
+add-read c =
+    let i = from (stepped-on c) in
+    let s = start (i .before) .pre in
+    omega (arith, few i, i .before .loop .inv .0, s .short, s .sizes .tall)
 
 loop-less : tie.Need-loop-less Inv-loop μ-loop
 loop-less c = omega (arith, from (stepped-on c) .loop-test .taken)
@@ -157,7 +160,7 @@ loop-again c =
     let i = from a in
     let l = i .before in
     let on =
-    goes (samples l) (tolerance l) (lent l) _ _ (start l .pre) (held l) _ _ _ _ (going l) (left i) _ (after a) _ _ (a .advance .ensures) in
+    goes (samples l) (tolerance l) (lent l) _ _ (start l .pre) (held l) _ _ _ _ (going l) (remains i) _ (after a) _ _ (a .advance .ensures) in
     (l .loop .inv .0, on _ (c .before .made .given .1) (same a))
 
 report-requires-2 : tie.Need-report-requires-2 Inv-loop μ-loop

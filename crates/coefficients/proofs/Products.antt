@@ -46,7 +46,7 @@ second-below D g h =
 
 pub third-below : (D g : ℕ) → 1 ≤ D → thirdAxis D g < D
 third-below D g h =
-    by-bool (leb D 2) (λ e. rw e h)
+    by-bool (leb D 2) (λ e. rw e (omega arith))
     (λ e. rw e (let more : 2 < D = leb-false D 2 e in by-bool (eqb g 2) (λ z. rw z (omega arith)) (λ z. rw z more)))
 
 -- a product that starts with an axis and goes on with the others is the product of its sources

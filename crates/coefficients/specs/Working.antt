@@ -34,12 +34,13 @@ placeOf D p P k a = (a * p + digit p D a k) * P
 abbrev pub productOf : (D p P : ℕ) → (axes : ℕ → ℕ) → (buffers : ℕ → List Float) → (i k : ℕ) → Float
 productOf D p P axes buffers i k = chain (D - 1) (λ m. getD (buffers m) (placeOf D p P k (axes m) + i) nan)
 
--- the axes of a product that starts with axis g: those past the dimension are not read
+-- The axes of a product that starts with axis g. Those past the dimension are not read; the last axis stands there, whose index is found
+-- soonest.
 abbrev pub secondAxis : (D g : ℕ) → ℕ
 secondAxis D g = cond (leb D 1) 0 (cond (eqb g 0) 1 0)
 
 abbrev pub thirdAxis : (D g : ℕ) → ℕ
-thirdAxis D g = cond (leb D 2) 0 (cond (eqb g 2) 1 2)
+thirdAxis D g = cond (leb D 2) (D - 1) (cond (eqb g 2) 1 2)
 
 -- row i of the column of node k, whose product starts with axis g of one buffer and goes on with the other axes of another
 abbrev pub startedOf : (D p P g : ℕ) → (starts factors : List Float) → (i k : ℕ) → Float

@@ -147,10 +147,11 @@ fn second_axis(dimension: usize, axis: usize) -> usize
 }
 
 fn third_axis(dimension: usize, axis: usize) -> usize
+    requires { ⌜ 1 ≤ dimension ⌝ }
     ensures { λ r. ⌜ r ≡ thirdAxis dimension axis ⌝ }
 {
     if dimension <= 2 {
-        return 0;
+        return dimension - 1;
     }
     if axis == 2 { 1 } else { 2 }
 }

@@ -9,10 +9,11 @@ ghost use Rattle.common.specs.Refusals.{Shape};
 ghost use Rattle.transfer.specs.Tensor.{directed, passed, along, ends, transferNumber, transferCall};
 ghost use Rattle.transfer.specs.Working.{Spaced, StripOf, added, summed};
 
-// How many rows of the operator a pass takes at a time.
+// How many rows of the operator a pass takes at a time: so few that their sums stay in registers and their entries take 512 bytes
+// of stack, and enough that an entry of the values is read once for all of them.
 const LANES: usize = 4;
 
-// A row of the strip or a column of the result: entries that stand `step` apart, stored `gap` apart.
+// Entries that stand `step` apart, stored `gap` apart: a row of the operator in its lane, or the sums of a column in the result.
 fn copy_spaced(
     count: usize,
     source: &[f64],

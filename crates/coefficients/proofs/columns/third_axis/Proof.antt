@@ -1,7 +1,11 @@
 -- `coefficients::columns::third_axis` meets its contract: each return by the tests that led there. Assumes nothing.
 use borrow.Author.Tests.{le-leb, lt-leb, eq-eqb, ne-eqb}
+use borrow.Author.Needs.{needs}
 use Rattle.coefficients.proofs.columns.third_axis.Statement.{statement}
 use Rattle.coefficients.proofs.columns.third_axis.Tie as tie
+
+sub-result : tie.Need-sub-result
+sub-result c = search needs
 
 returns : tie.Need-returns
 returns c = rw (le-leb _ 2 (c .if1 .taken))
@@ -13,4 +17,4 @@ returns-3 : tie.Need-returns-3
 returns-3 c = rw (lt-leb _ 2 (c .before .if1 .left), ne-eqb _ 2 (c .if2 .left))
 
 pub third-axis-spec : {M : Type 1} → statement M
-third-axis-spec = tie.close (tie.spec returns returns-2 returns-3)
+third-axis-spec = tie.close (tie.spec sub-result returns returns-2 returns-3)

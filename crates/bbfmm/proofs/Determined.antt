@@ -55,7 +55,8 @@ module _ (order : ℕ) (nodes polynomials operators : List Float) (r r' : ℕ ×
       r' ≡ operatorsCall order nodes polynomials operators → r ≡ r'
   bbfmm-get-m2m-transfer-operators-determined = coincide r r' (operatorsCall order nodes polynomials operators)
 
-module _ (dimension order child : ℕ) (transpose : Bool) (input operators first second : List Float) (r r' : ℕ × List Float × List Float) where
+module _ (dimension order child : ℕ) (transpose : Bool) (input operators first second : List Float)
+    (r r' : ℕ × List Float × List Float) where
   bbfmm-apply-cheb-tensor-transfer-determined : r ≡ transferCall dimension order child transpose input operators first second →
       r' ≡ transferCall dimension order child transpose input operators first second → r ≡ r'
   bbfmm-apply-cheb-tensor-transfer-determined = coincide r r' (transferCall dimension order child transpose input operators first second)
@@ -73,10 +74,13 @@ module _ (dimension order : ℕ) (length : Float) (reference : ℕ) (nodes point
 
 -- COEFFICIENTS
 
-module _ (dimension order rows : ℕ) (side : Float) (with : Bool) (centre polynomials : List Float) (lent : coefficients.Memory) (r r' : ℕ × coefficients.Memory) where
-  bbfmm-get-approximation-coefficients-determined : r ≡ coefficients.coefficientsCall dimension order rows side with centre polynomials lent →
+module _ (dimension order rows : ℕ) (side : Float) (with : Bool) (centre polynomials : List Float) (lent : coefficients.Memory)
+    (r r' : ℕ × coefficients.Memory) where
+  bbfmm-get-approximation-coefficients-determined : r ≡ coefficients.coefficientsCall dimension order rows side with centre polynomials
+      lent →
       r' ≡ coefficients.coefficientsCall dimension order rows side with centre polynomials lent → r ≡ r'
-  bbfmm-get-approximation-coefficients-determined = coincide r r' (coefficients.coefficientsCall dimension order rows side with centre polynomials lent)
+  bbfmm-get-approximation-coefficients-determined = coincide r r' (coefficients.coefficientsCall dimension order rows side with centre
+      polynomials lent)
 
 -- CHOICES AND CROSS APPROXIMATION
 
@@ -88,7 +92,8 @@ module _ (values : List Float) (epsilon : Float) (place : List ℕ) (r r' : ℕ 
   bbfmm-calculate-singular-values-cutoff-determined : r ≡ cutoffTold values epsilon place → r' ≡ cutoffTold values epsilon place → r ≡ r'
   bbfmm-calculate-singular-values-cutoff-determined = coincide r r' (cutoffTold values epsilon place)
 
-module _ (rows columns : ℕ) (samples : List Float) (epsilon : Float) (lent : Memory) (counts : List ℕ) (estimate : List Float) (r r' : Crossed) where
+module _ (rows columns : ℕ) (samples : List Float) (epsilon : Float) (lent : Memory) (counts : List ℕ) (estimate : List Float)
+    (r r' : Crossed) where
   bbfmm-aca-partial-pivoting-determined : r ≡ crossTold rows columns samples epsilon lent counts estimate →
       r' ≡ crossTold rows columns samples epsilon lent counts estimate → r ≡ r'
   bbfmm-aca-partial-pivoting-determined = coincide r r' (crossTold rows columns samples epsilon lent counts estimate)

@@ -34,7 +34,8 @@ module _ {A : Type 0} (values lent : List A) where
   unfolding told withLength lower
   told-unfit own z e = call-refused wrongLength _ values lent (rw (z, e)) (λ h. omega arith)
 
-  pub told-done : (own : ℕ) (after : List A) → own ≡ 0 → eqb (length lent) (length values) ≡ true → after ≡ values → (0, after) ≡ told own values lent
+  pub told-done : (own : ℕ) (after : List A) → own ≡ 0 → eqb (length lent) (length values) ≡ true → after ≡ values →
+      (0, after) ≡ told own values lent
   unfolding told withLength lower
   told-done own after z e h = call-done 0 _ values lent (rw (z, e)) after refl h
 

@@ -47,7 +47,8 @@ module _ (m n : ℕ) (a : List Float) (epsilon : Float) (t : Memory) (c : List �
   unfit-is : reportFits c e ≡ false → unfitNumber m n ≡ crossNumber m n a t c e
   unfolding unfitNumber crossNumber withLength lower acaNumber
   unfit-is h =
-      rw h (by-bool (leb m mostEntries && leb n mostEntries) (λ l. rw l (by-bool (fits m n (lengths a t)) (λ f. rw f) (λ f. rw f))) (λ l. rw l))
+      rw h (by-bool (leb m mostEntries && leb n mostEntries) (λ l. rw l (by-bool (fits m n (lengths a t)) (λ f. rw f) (λ f. rw f)))
+      (λ l. rw l))
 
   unfit-refuses : unfitNumber m n ≡ 0 → ⊥
   unfolding unfitNumber
@@ -69,7 +70,8 @@ module _ (m n : ℕ) (a : List Float) (epsilon : Float) (t : Memory) (c : List �
 
   -- slices that fit: the answer of the run, in numbers
   pub cross-fit : (r : Approximation) (t' : Memory) (number : ℕ) (c' : List ℕ) (e' : List Float) → reportFits c e ≡ true →
-      call (told r) t' ≡ acaCall m n a epsilon t → (number, c', e') ≡ reportTold (told r) c e → crossed number t' c' e' ≡ crossTold m n a epsilon t c e
+      call (told r) t' ≡ acaCall m n a epsilon t → (number, c', e') ≡ reportTold (told r) c e →
+      crossed number t' c' e' ≡ crossTold m n a epsilon t c e
   unfolding acaCall crossTold crossNumber
   cross-fit r t' number c' e' f h g =
       let own = acaNumber m n (lengths a t) in

@@ -47,7 +47,12 @@ in-units l (negsuc k) h =
     (λ b _. absurd (let most = pow-le-pow-right {n = 2} (omega arith) {i = l} {j = k} b in omega (arith, pow-suc 2 k, pow-pos k)))
 
 all-four : (a b c d : Bool) → T (a && b && c && d) → T b × T c × T d
-all-four a b c d t = (and-r a b (and-l (a && b) c (and-l (a && b && c) d t)), and-r (a && b) c (and-l (a && b && c) d t), and-r (a && b && c) d t)
+all-four a b c d t = (
+  and-r a b (and-l (a && b) c (and-l (a && b && c) d t)),
+  and-r (a && b) c (and-l (a && b && c) d t),
+  and-r
+      (a && b && c) d t,
+)
 
 kept : (f : Format) (s : Bool) (n : ℕ) (d : ℤ) → T (fits f (fin s n d)) → HasValue (round f s (n * up d) (down d)) s (n * up d) (down d)
 unfolding fits
@@ -55,14 +60,17 @@ kept f s zero d t =
     let none : zero * up d * 2 ^ low f ≡ 0 * down d = rw (zero-mul (up d), zero-mul (2 ^ low f), zero-mul (down d)) in
     round-exact f s (zero * up d) (down d) 0 0 (down-pos d) (pow-pos (prec f)) (pow-pos (low f + suc (emax f))) none
 kept f s (suc m) d t =
-    let says = all-four (eqb (suc m % 2) 1) (ltb (suc m) (2 ^ prec f)) (leb (down d) (2 ^ low f)) (ltb (suc m * up d) (2 ^ suc (emax f) * down d)) t in
+    let says = all-four (eqb (suc m % 2) 1) (ltb (suc m) (2 ^ prec f)) (leb (down d) (2 ^ low f))
+    (ltb (suc m * up d) (2 ^ suc (emax f) * down d)) t in
     let units = in-units (low f) d (leb→le (down d) (2 ^ low f) (says .1)) in
     let j = units .0 in
     let same : suc m * up d * 2 ^ low f ≡ suc m * 2 ^ j * down d =
     mul-assoc (suc m) (up d) (2 ^ low f) ∙ ap (λ (k : ℕ). suc m * k) (units .1) ∙ sym (mul-assoc (suc m) (2 ^ j) (down d)) in
     let top : 2 ^ suc (emax f) * down d * 2 ^ low f ≡ 2 ^ (low f + suc (emax f)) * down d =
-    mul-right-comm (2 ^ suc (emax f)) (down d) (2 ^ low f) ∙ ap (λ (k : ℕ). k * down d) (mul-comm (2 ^ suc (emax f)) (2 ^ low f) ∙ sym (pow-add 2 (low f) (suc (emax f)))) in
-    let less : suc m * up d * 2 ^ low f < 2 ^ suc (emax f) * down d * 2 ^ low f = mul-lt-mul-of-pos-right (ltb→lt _ _ (says .2)) (pow-pos (low f)) in
+    mul-right-comm (2 ^ suc (emax f)) (down d) (2 ^ low f) ∙ ap (λ (k : ℕ). k * down d)
+    (mul-comm (2 ^ suc (emax f)) (2 ^ low f) ∙ sym (pow-add 2 (low f) (suc (emax f)))) in
+    let less : suc m * up d * 2 ^ low f < 2 ^ suc (emax f) * down d * 2 ^ low f = mul-lt-mul-of-pos-right (ltb→lt _ _ (says .2))
+    (pow-pos (low f)) in
     round-exact f s (suc m * up d) (down d) (suc m) j (down-pos d) (ltb→lt (suc m) (2 ^ prec f) (says .0))
     (lt-of-mul-lt-mul-right (down d) (rw (← same, ← top) less)) same
 

@@ -24,7 +24,13 @@ use Rattle.aca.specs.Runs.{followed, run, report, fits, acaNumber, approximatio
 use Rattle.fixed.specs.Results.{Fixed}
 
 pub fixed : Fixed
-unfolding fromDigits digit sums columnMajor left each those count factorial skip unskip axis place largest axisOrder sorted index case atMost near isReference references entry farReference referenceOf reversed negative axisOf placeOf turnedIndex turned returnedIndex returned tableNumber tableCall lookUpNumber knownOf lookUp T T′ polynomialsNumber polynomialsCall passed directed operatorHalf along ends transferNumber transferred transferCall size best argmax pivot counts isMask argmaxNumber argmaxCall residual multiplied unread rowRead columnRead norm cross grown weighed judged stored accepted tried step squares firstBelow cutoff cutoffNumber cutoffCall followed run report laid fits acaNumber approximation acaCall trailingZeros add sub mul div neg lt le ofBits ofFields ofInt odd units round sum digits span climb
+unfolding fromDigits digit sums columnMajor left each those count factorial skip unskip axis place largest axisOrder sorted index case
+    atMost near isReference references entry farReference referenceOf reversed negative axisOf placeOf turnedIndex turned returnedIndex
+    returned tableNumber tableCall lookUpNumber knownOf lookUp T T′ polynomialsNumber polynomialsCall passed directed operatorHalf along
+    ends transferNumber transferred transferCall size best argmax pivot counts isMask argmaxNumber argmaxCall residual multiplied unread
+    rowRead columnRead norm cross grown weighed judged stored accepted tried step squares firstBelow cutoff cutoffNumber cutoffCall
+    followed run report laid fits acaNumber approximation acaCall trailingZeros add sub mul div neg lt le ofBits ofFields ofInt odd units
+    round sum digits span climb
 fixed =
     record {
       vector-158 = refl;

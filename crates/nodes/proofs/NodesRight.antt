@@ -55,7 +55,8 @@ module _ (x : ℕ → ℕ → Float) where
   unfolding allRight right exactly rising crossing
   rule-of all zero i l u h = absurd (not-suc-le-zero l)
   rule-of all (suc q) i l u h =
-      let here : right (suc q) i ≡ true = each-at (suc q) (right (suc q)) (each-at 16 (λ r. each (suc r) (right (suc r))) all q (omega arith)) i h in
+      let here : right (suc q) i ≡ true = each-at (suc q) (right (suc q))
+      (each-at 16 (λ r. each (suc r) (right (suc r))) all q (omega arith)) i h in
       let one = and-eq-true-iff (exactly (suc q) i) (rising (suc q) i && crossing (suc q) i) .0 here in
       let two = and-eq-true-iff (rising (suc q) i) (crossing (suc q) i) .0 (one .1) in
       record {
@@ -73,7 +74,8 @@ pub nodes-right : (p i : ℕ) → 1 ≤ p → p ≤ 16 → i < p → Node node p
 nodes-right = rule-of node all-right
 
 -- A ROW of the constant table: a call has copied it, and it holds the nodes of its order
-pub row-right : (p k : ℕ) (nodes after : List Float) → p ≡ k → length nodes ≡ p → after ≡ stretch 0 k (λ i. getD (tabulate k (node k)) i nan) nodes →
+pub row-right : (p k : ℕ) (nodes after : List Float) → p ≡ k → length nodes ≡ p →
+    after ≡ stretch 0 k (λ i. getD (tabulate k (node k)) i nan) nodes →
     after ≡ tabulate p (node p)
 row-right p k nodes after e long made =
     rw e (made ∙ fill-all k _ nodes (long ∙ e) ∙ tabulate-cong k _ (node k) (λ i h. getD-tabulate k (node k) i nan h))

@@ -54,7 +54,8 @@ fewest-in (suc k) (suc (suc r)) n l f =
 fewest-most : (r n : ℕ) → n < 2 ^ 64 → Fewest 10 1 n r → r ≤ 20
 fewest-most r n fits f =
     by-lt 20 r
-    (λ more _. let large : 10 ^ 20 ≤ n = le-trans (pow-le-pow-right {n = 10} (lit< tt) {i = 20} {j = r - 1} (omega arith)) (f .2 (omega arith)) in absurd (omega arith))
+    (λ more _. let large : 10 ^ 20 ≤ n = le-trans (pow-le-pow-right {n = 10} (lit< tt) {i = 20} {j = r - 1} (omega arith))
+    (f .2 (omega arith)) in absurd (omega arith))
     (λ enough _. enough)
 
 pub fewest-decimal : (r n : ℕ) → n < 2 ^ 64 → Fewest 10 1 n r → digits 10 r n ≡ decimal n

@@ -58,7 +58,8 @@ module _ (to : ℕ) (v w l : List ℕ) where
       (λ h _. let whole : to + min (length v) (length l - to) ≡ to + length v = omega arith in rw (whole, sets-append v w l to))
 
 -- what two puts leave, the second from where the first ended
-pub put-then : {r r' : ℕ} {m m' : List ℕ} (to : ℕ) (v w l : List ℕ) → (r, m) ≡ put to v l → (r', m') ≡ put r w m → (r', m') ≡ put to (v ++ w) l
+pub put-then : {r r' : ℕ} {m m' : List ℕ} (to : ℕ) (v w l : List ℕ) → (r, m) ≡ put to v l → (r', m') ≡ put r w m →
+    (r', m') ≡ put to (v ++ w) l
 put-then {r} {r'} {m} {m'} to v w l e e' =
     let place : r ≡ put to v l .0 = ap (λ (t : ℕ × List ℕ). t .0) e in
     let line : m ≡ put to v l .1 = ap (λ (t : ℕ × List ℕ). t .1) e in

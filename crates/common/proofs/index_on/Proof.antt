@@ -35,12 +35,20 @@ returns-2 c = rw (c .if2 .taken, power-one)
 mul-result : tie.Need-mul-result
 mul-result c =
     let s = c .before .before in
-    omega (arith, mul-le-mul {n₁ = s .args .order} {m₁ = s .args .order} {n₂ = 16} {m₂ = 16} (s .pre .0 .order-most) (s .pre .0 .order-most))
+    omega (
+      arith,
+      mul-le-mul {n₁ = s .args .order} {m₁ = s .args .order} {n₂ = 16} {m₂ = 16} (s .pre .0 .order-most)
+          (s .pre .0 .order-most),
+    )
 
 div-result-2 : tie.Need-div-result-2
 div-result-2 c =
     let s = c .before .before in
-    omega (arith, mul-le-mul {n₁ = 1} {m₁ = 1} {n₂ = s .args .order} {m₂ = s .args .order} (s .pre .0 .order-least) (s .pre .0 .order-least))
+    omega (
+      arith,
+      mul-le-mul {n₁ = 1} {m₁ = 1} {n₂ = s .args .order} {m₂ = s .args .order} (s .pre .0 .order-least)
+          (s .pre .0 .order-least),
+    )
 
 rem-result-3 : tie.Need-rem-result-3
 rem-result-3 c = search needs

@@ -122,13 +122,15 @@ returns-2 c =
     let k = length i - l .at in
     let long = short-size k (omega arith) in
     let size = measured (short k) (l .line) (l .inv .1) (omega arith) (p .put-counted .ensures) in
-    measured-all (text i) (text (drop (l .at) i)) _ (l .left) (l .inv .2) (p .put-counted .result) (ap length (text-short i (l .at) (omega arith) (omega arith)) ∙ sym size)
+    measured-all (text i) (text (drop (l .at) i)) _ (l .left) (l .inv .2) (p .put-counted .result)
+    (ap length (text-short i (l .at) (omega arith) (omega arith)) ∙ sym size)
 
 returns-3 : tie.Need-returns-3 Inv-loop μ-loop
 returns-3 c =
     let l = c .before .before .loop in
     let i = c .before .before .before .before .args .input .now in
-    sym (le-leb 0 (l .left) (omega arith)) ∙ measured-all (text i) (text (drop (l .at) i)) _ (l .left) (l .inv .2) 0 (ap length (text-end i (l .at) (omega arith)))
+    sym (le-leb 0 (l .left) (omega arith)) ∙ measured-all (text i) (text (drop (l .at) i)) _ (l .left) (l .inv .2) 0
+    (ap length (text-end i (l .at) (omega arith)))
 
 pub fits-spec : {M : Type 1} → statement M
 fits-spec =

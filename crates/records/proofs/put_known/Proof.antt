@@ -32,8 +32,10 @@ whole c {near} {after} {next} e h =
     let a = start c .args in
     let k = a .known in
     let word = h ∙ ap (λ (b : Bool). put (third c .put-next2 .result) (nearness b) (third c .put-next2 .last .0)) (sym e) in
-    let from-reference = put-then (second c .put-next .result) (spaced (k .reference)) (nearness (k .near)) (second c .put-next .last .0) (third c .put-next2 .ensures) word in
-    let from-case = put-then (first c .put-number .result) (spaced (k .case)) (spaced (k .reference) ++ nearness (k .near)) (first c .put-number .last .0)
+    let from-reference = put-then (second c .put-next .result) (spaced (k .reference)) (nearness (k .near)) (second c .put-next .last .0)
+    (third c .put-next2 .ensures) word in
+    let from-case = put-then (first c .put-number .result) (spaced (k .case)) (spaced (k .reference) ++ nearness (k .near))
+    (first c .put-number .last .0)
     (second c .put-next .ensures) from-reference in
     put-then (a .to) (decimal (k .index)) (spaced (k .case) ++ (spaced (k .reference) ++ nearness (k .near))) (a .output .now)
     (first c .put-number .ensures) from-case

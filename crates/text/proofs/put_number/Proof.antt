@@ -28,7 +28,8 @@ returns : tie.Need-returns
 returns c =
     let d = c .before .before .before .before .before in
     let s = d .before .before .before in
-    let word = d .decimal .ensures .1 .1 ∙ fewest-decimal (d .decimal .result) (s .args .n) (s .fits .n .fits) (d .decimal .ensures .1 .0) in
+    let word = d .decimal .ensures .1 .1 ∙ fewest-decimal (d .decimal .result) (s .args .n) (s .fits .n .fits)
+    (d .decimal .ensures .1 .0) in
     c .before .before .put .ensures ∙ ap (λ (w : List ℕ). put (s .args .to) w (s .args .line .now)) word
 
 pub put-number-spec : {M : Type 1} → statement M

@@ -1,4 +1,5 @@
--- `bbfmm::aca_calls::bbfmm_aca_partial_pivoting` meets its contract: slices that do not fit, or what the run answers, in numbers. Assumes nothing.
+-- `bbfmm::aca_calls::bbfmm_aca_partial_pivoting` meets its contract: slices that do not fit, or what the run answers, in numbers. Assumes
+-- nothing.
 use borrow.Author.Needs.{needs}
 use mathlib.Core.List.{List}
 use Prim.Native.Nat.{ℕ}

@@ -42,7 +42,12 @@ returns-2 : tie.Need-returns-2
 unfolding reportTold
 returns-2 c =
     let s = c .before .before .before .before in
-    rw (c .before .before .made2 .given .1, stored-three (s .args .counts .now) _ _ _ (s .pre .0), stored-one (s .args .estimate .now) _ (s .pre .1))
+    rw (
+      c .before .before .made2 .given .1,
+      stored-three (s .args .counts .now) _ _ _ (s .pre .0),
+      stored-one (s .args .estimate .now) _
+          (s .pre .1),
+    )
 
 pub tell-report-spec : {M : Type 1} → statement M
 tell-report-spec =

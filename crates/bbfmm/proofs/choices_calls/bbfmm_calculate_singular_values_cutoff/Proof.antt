@@ -1,4 +1,5 @@
--- `bbfmm::choices_calls::bbfmm_calculate_singular_values_cutoff` meets its contract: what is told is the place that the call answers. Assumes nothing.
+-- `bbfmm::choices_calls::bbfmm_calculate_singular_values_cutoff` meets its contract: what is told is the place that the call answers.
+-- Assumes nothing.
 use borrow.Author.Needs.{needs}
 use mathlib.Core.Path.{ap, _∙_}
 use mathlib.Core.Option.{Option}

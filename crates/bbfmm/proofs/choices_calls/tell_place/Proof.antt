@@ -44,7 +44,8 @@ returns-3 : tie.Need-returns-3
 unfolding placeTold
 returns-3 c =
     rw (c .before .before .found2 .given .1)
-    (told-unfit (c .before .before .found2 .given .0 .0 ∷ []) (c .before .before .before .before .before .args .place .now) 0 refl (c .if1 .left))
+    (told-unfit (c .before .before .found2 .given .0 .0 ∷ []) (c .before .before .before .before .before .args .place .now) 0 refl
+    (c .if1 .left))
 
 pub tell-place-spec : {M : Type 1} → statement M
 tell-place-spec =

@@ -26,7 +26,8 @@ enum-known-found-2 : tie.Need-enum-known-found-2
 enum-known-found-2 c = search needs
 
 -- what the call is told of the vector
-answered : (c : tie.After-look-up) → let a = c .before .before .args in toldLookUp (c .look-up .result) ≡ lookUp (a .dimension) (a .x, a .y, a .z)
+answered : (c : tie.After-look-up) → let a = c .before .before .args in toldLookUp (c .look-up .result)
+    ≡ lookUp (a .dimension) (a .x, a .y, a .z)
 answered c =
     let s = c .before .before in
     c .look-up .ensures ∙ look-held (s .args .dimension) (s .args .x) (s .args .y) (s .args .z) (s .fits .x) (s .fits .y) (s .fits .z)
@@ -63,7 +64,8 @@ unfolding lookUpTold
 returns c =
     let a = c .before .before .before .before .before .before .before .args in
     let e = c .before .before .before .found2 .given .0 .0 in
-    let found = look-found (a .dimension) (a .x, a .y, a .z) _ (answered (c .before .before .before .before .before)) e (c .before .before .before .found2 .given .1) in
+    let found = look-found (a .dimension) (a .x, a .y, a .z) _ (answered (c .before .before .before .before .before)) e
+    (c .before .before .before .found2 .given .1) in
     told-done _ (a .answer .now) _ _ (found .0) (c .before .if1 .taken)
     (stored-four (a .answer .now) _ _ _ _ (fitting (c .before)) ∙ rw (as-number (e .near), found .1))
 
@@ -71,14 +73,16 @@ returns-2 : tie.Need-returns-2
 unfolding lookUpTold
 returns-2 c =
     let a = c .before .before .before .before .before .before .args in
-    let refused = look-refused (a .dimension) (a .x, a .y, a .z) _ (answered (c .before .before .before .before)) _ (c .before .before .found .given .1) in
+    let refused = look-refused (a .dimension) (a .x, a .y, a .z) _ (answered (c .before .before .before .before)) _
+    (c .before .before .found .given .1) in
     told-refused _ (a .answer .now) _ _ (c .with-length .ensures ∙ rw (refused .0)) (refused .1)
 
 returns-3 : tie.Need-returns-3
 unfolding lookUpTold
 returns-3 c =
     let a = c .before .before .before .before .before .before .args in
-    let found = look-found (a .dimension) (a .x, a .y, a .z) _ (answered (c .before .before .before .before)) _ (c .before .before .found2 .given .1) in
+    let found = look-found (a .dimension) (a .x, a .y, a .z) _ (answered (c .before .before .before .before)) _
+    (c .before .before .found2 .given .1) in
     told-unfit _ (a .answer .now) _ (found .0) (c .if1 .left)
 
 pub bbfmm-look-up-spec : {M : Type 1} → statement M

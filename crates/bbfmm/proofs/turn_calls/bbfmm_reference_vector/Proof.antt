@@ -1,4 +1,5 @@
--- `bbfmm::turn_calls::bbfmm_reference_vector` meets its contract: each arm by what its variant says, and by the answer's length. Assumes nothing.
+-- `bbfmm::turn_calls::bbfmm_reference_vector` meets its contract: each arm by what its variant says, and by the answer's length. Assumes
+-- nothing.
 use borrow.Author.Needs.{needs, sfits-of}
 use borrow.Author.Tests.{eqb-true}
 use mathlib.Core.Path.{_≡_, _∙_}
@@ -45,9 +46,16 @@ returns c =
     let m = c .before .before .before .before .before in
     let a = m .before .before .before .args in
     let g = c .before .before .struct-told .given in
-    let found = reference-found (a .dimension) (a .number) _ (m .before .before .reference-vector .ensures) (m .found2 .given .0 .0) (m .found2 .given .1) in
+    let found = reference-found (a .dimension) (a .number) _ (m .before .before .reference-vector .ensures) (m .found2 .given .0 .0)
+    (m .found2 .given .1) in
     told-done _ (a .vector .now) _ _ (found .0) (c .before .before .before .if1 .taken)
-    (stored-three (a .vector .now) _ _ _ (fitting c) ∙ rw (toZ-ofZ (sfits-of (g .0 .1)), toZ-ofZ (sfits-of (g .1 .0 .1)), toZ-ofZ (sfits-of (g .1 .1 .0 .1)), found .1))
+    (stored-three (a .vector .now) _ _ _ (fitting c) ∙ rw (
+      toZ-ofZ (sfits-of (g .0 .1)),
+      toZ-ofZ (sfits-of (g .1 .0 .1)),
+      toZ-ofZ
+          (sfits-of (g .1 .1 .0 .1)),
+      found .1,
+    ))
 
 returns-2 : tie.Need-returns-2
 unfolding referenceTold

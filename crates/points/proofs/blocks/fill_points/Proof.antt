@@ -1,4 +1,5 @@
--- `points::blocks::fill_points` meets its contract. The loop keeps `Stepping`: the columns before `axis` are filled; and the values keep their length. Assumes nothing.
+-- `points::blocks::fill_points` meets its contract. The loop keeps `Stepping`: the columns before `axis` are filled; and the values keep
+-- their length. Assumes nothing.
 use borrow.Author.Needs.{needs}
 use mathlib.Core.Path.{_≡_, refl, ap, _∙_}
 use Prim.Native.Nat.{_+_, _-_, _^_, _≤_}
@@ -16,7 +17,8 @@ use Rattle.points.proofs.blocks.fill_points.Tie as tie
 
 abbrev Inv-loop : tie.InvT-loop
 Inv-loop dimension order source side vector nodes points₀ rows values₀ axis₀ at₀ points values axis at =
-    (length values ≡ 16) × Stepping 0 dimension rows (cell rows (blockPoint source dimension order side vector nodes)) points₀ points axis at
+    (length values ≡ 16) × Stepping 0 dimension rows (cell rows (blockPoint source dimension order side vector nodes)) points₀ points axis
+    at
 
 abbrev μ-loop : tie.MeasureT-loop
 μ-loop dimension order source side vector nodes points₀ rows values₀ axis₀ at₀ points values axis at = dimension - axis
@@ -31,15 +33,19 @@ room c =
     let s = c .before .before .before .before .before in
     let a = s .args in
     column-room (a .dimension) (a .order) _ _ _ (c .before .before .power .ensures) (l .inv .1 .long ∙ s .pre .whole)
-    (stepping-fits 0 (a .dimension) _ (cell _ (blockPoint (a .is-source) (a .dimension) (a .order) (a .side) (a .vector) (a .nodes .now))) _ _ _ _ (l .inv .1) (c .loop-test .taken))
+    (stepping-fits 0 (a .dimension) _ (cell _ (blockPoint (a .is-source) (a .dimension) (a .order) (a .side) (a .vector) (a .nodes .now)))
+    _ _ _ _ (l .inv .1) (c .loop-test .taken))
 
 power-requires : tie.Need-power-requires Inv-loop μ-loop
 power-requires c κs = let s = c .before .before in (s .pre .shape .order-most, s .pre .shape .dimension-most)
 
 loop-holds : tie.Need-loop-holds Inv-loop μ-loop
 loop-holds c =
-    let a = c .before .before .before .args in
-    (refl, stepping-none 0 (a .dimension) _ (cell _ (blockPoint (a .is-source) (a .dimension) (a .order) (a .side) (a .vector) (a .nodes .now))) _)
+    let a = c .before .before .before .args in (
+      refl,
+      stepping-none 0 (a .dimension) _ (cell _ (blockPoint (a .is-source) (a .dimension) (a .order) (a .side) (a .vector)
+          (a .nodes .now))) _,
+    )
 
 offset-on-requires : tie.Need-offset-on-requires Inv-loop μ-loop
 offset-on-requires c κs = let s = c .before .before .before .before .before in omega (arith, s .pre .shape .dimension-most)
@@ -77,9 +83,11 @@ loop-again c =
     let made = c .before .before .before .before .before .fill-values .ensures in (
       ap length made ∙ stretch-length 0 (λ j. onAxis (a .is-source) (a .side) _ (getD (a .nodes .now) j nan)) _ (a .order)
           (omega (arith, l .inv .0, s .pre .shape .order-most)) ∙ l .inv .0,
-      column-more (a .dimension) (a .order) _ (blockPoint (a .is-source) (a .dimension) (a .order) (a .side) (a .vector) (a .nodes .now)) _ _ _
+      column-more (a .dimension) (a .order) _ (blockPoint (a .is-source) (a .dimension) (a .order) (a .side) (a .vector) (a .nodes .now))
+          _ _ _
           (l .axis) (l .at) _ _ _ e (s .pre .whole) (s .pre .shape .order-least) (l .inv .1) (i .loop-test .taken) made
-          (λ n. ap (λ (r : Float). onAxis (a .is-source) (a .side) r (nodeOn (a .dimension) (a .order) (l .axis) (a .nodes .now) n)) (c .before .before .before .before .before .before .before .offset-on .ensures))
+          (λ n. ap (λ (r : Float). onAxis (a .is-source) (a .side) r (nodeOn (a .dimension) (a .order) (l .axis) (a .nodes .now) n))
+          (c .before .before .before .before .before .before .before .offset-on .ensures))
           (c .before .before .fill-column .ensures),
     )
 
@@ -91,7 +99,8 @@ returns c =
     let l = c .before .loop in
     let s = c .before .before .before .before .before in
     let a = s .args in
-    stepping-done 0 (a .dimension) _ (cell _ (blockPoint (a .is-source) (a .dimension) (a .order) (a .side) (a .vector) (a .nodes .now))) _ _ _ _
+    stepping-done 0 (a .dimension) _ (cell _ (blockPoint (a .is-source) (a .dimension) (a .order) (a .side) (a .vector) (a .nodes .now)))
+    _ _ _ _
     (l .inv .1) (c .loop-test .left)
     ∙ points-done (a .dimension) (a .order) _ (blockPoint (a .is-source) (a .dimension) (a .order) (a .side) (a .vector) (a .nodes .now)) _
     (c .before .before .power .ensures) (s .pre .whole)

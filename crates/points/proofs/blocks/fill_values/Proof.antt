@@ -12,7 +12,8 @@ use Rattle.points.proofs.blocks.fill_values.Statement.{statement}
 use Rattle.points.proofs.blocks.fill_values.Tie as tie
 
 abbrev Inv-loop : tie.InvT-loop
-Inv-loop order source side away nodes values₀ i₀ values i = Filling 0 order (λ j. onAxis source side away (getD nodes j nan)) values₀ values i
+Inv-loop order source side away nodes values₀ i₀ values i = Filling 0 order
+    (λ j. onAxis source side away (getD nodes j nan)) values₀ values i
 
 abbrev μ-loop : tie.MeasureT-loop
 μ-loop order source side away nodes values₀ i₀ values i = order - i
@@ -48,7 +49,8 @@ loop-again c =
     let s = c .before .before .before .before .before in
     let a = s .args in
     filling-more 0 (a .order) (λ j. onAxis (a .is-source) (a .side) (a .away) (getD (a .nodes .now) j nan)) _ _ _ _ nan _
-    (c .before .before .before .loop .inv) (c .before .before .loop-test .taken) (omega (arith, s .pre)) (sym (zero-add _)) (c .value-of .ensures)
+    (c .before .before .before .loop .inv) (c .before .before .loop-test .taken) (omega (arith, s .pre)) (sym (zero-add _))
+    (c .value-of .ensures)
 
 returns : tie.Need-returns Inv-loop μ-loop
 returns c =

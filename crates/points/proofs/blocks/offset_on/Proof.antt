@@ -22,7 +22,8 @@ int-to-float-result-2 c = search needs
 returns-2 : tie.Need-returns-2
 returns-2 c =
     rw (c .before .before .if2 .taken)
-    (ap (ofInt binary64) (toZ-ofZ w32 (c .before .before .before .before .args .vector .1) (record { sfits = c .struct-told2 .given .1 .0 .1 })))
+    (ap (ofInt binary64) (toZ-ofZ w32 (c .before .before .before .before .args .vector .1)
+    (record { sfits = c .struct-told2 .given .1 .0 .1 })))
 
 int-to-float-result-3 : tie.Need-int-to-float-result-3
 int-to-float-result-3 c = search needs

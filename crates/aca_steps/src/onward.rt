@@ -1,12 +1,13 @@
 // One step of cross approximation: a row is read, and where it has a pivot, the column through it and one more term.
 ghost use mathlib.Core.Path.{_≡_};
 ghost use Prim.Native.Nat.{_<_};
+ghost use lib.Ieee.{lt};
 ghost use lib.ListN.{length, set};
 ghost use Rattle.common.specs.Refusals.{mostEntries};
 ghost use Rattle.aca_lines.specs.Flags.{isOn, cleared};
 ghost use Rattle.aca_lines.specs.Largest.{argmax, pivot};
 ghost use Rattle.aca_lines.specs.Lines.{rowLess};
-ghost use Rattle.aca_steps.specs.Crosses.{grown, judged};
+ghost use Rattle.aca_steps.specs.Crosses.{grown, tiny₆₄, judged};
 ghost use Rattle.aca_steps.specs.Memories.{behind};
 ghost use Rattle.aca_steps.specs.Standing.{Ready, made, Stepped};
 ghost use Rattle.aca_steps.specs.Working.{RowFits, lent, TermFits, ColumnTaken, TermStored};
@@ -25,8 +26,15 @@ use aca_lines::read_column;
 use aca_lines::read_row;
 use aca_lines::store;
 
-// A pivot below 2^-52 is none.
+// The size below which a pivot is none: 2^-52.
 const TINY: f64 = 2.220446049250313e-16;
+
+// A pivot below 2^-52 is none. The state is at hand and is not asked: the test is absolute, however large the block is.
+fn is_none(pivot: Pivot, s: Progress) -> bool
+    ensures { λ r. ⌜ r ≡ lt (pivot .size) tiny₆₄ ⌝ }
+{
+    pivot.size < TINY
+}
 
 // Row or column i is used, and is number k of those read.
 fn mark(i: usize, k: usize, flags: &mut Flags, list: &mut [u16])
@@ -188,7 +196,7 @@ pub fn advance(
         row_list,
         row,
     );
-    if pivot.size < TINY {
+    if is_none(pivot, s) {
         return Step::Stop(SPENT, s);
     }
     let j = pivot.place;

@@ -160,7 +160,8 @@ loop-again c =
     let i = from a in
     let l = i .before in
     let on =
-    goes (samples l) (tolerance l) (lent l) _ _ (start l .pre) (held l) _ _ _ _ (going l) (remains i) _ (after a) _ _ (a .advance .ensures) in
+    goes (samples l) (tolerance l) (lent l) _ _ (start l .pre) (held l) _ _ _ _ (going l) (remains i)
+    _ (after a) _ _ (a .advance .ensures) in
     (l .loop .inv .0, on _ (c .before .made .given .1) (same a))
 
 report-requires-2 : tie.Need-report-requires-2 Inv-loop μ-loop

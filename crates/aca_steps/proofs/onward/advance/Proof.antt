@@ -1,5 +1,6 @@
 -- `aca_steps::onward::advance` meets its contract: what it does in memory is one step of the rule. Assumes nothing.
 use borrow.Author.Needs.{needs}
+use mathlib.Core.Path.{sym, _∙_}
 use Rattle.aca_steps.proofs.OneStep.{row-fits, term-fits, stopped, went-on}
 use Rattle.aca_steps.proofs.onward.advance.Statement.{statement}
 use Rattle.aca_steps.proofs.onward.advance.Tie as tie
@@ -28,6 +29,9 @@ take-row-requires c κs =
     let s = first c in
     row-fits (s .args .samples .now) (s .args .tolerance) (s .args .s) (s .args .read) _ _ _ (s .pre)
 
+is-none-requires : tie.Need-is-none-requires
+is-none-requires c κs = search needs
+
 same-length : tie.Need-same-length
 same-length c = search needs
 
@@ -45,7 +49,7 @@ returns c =
     let r = row-taken c .take-row in
     let s = start (row-taken c) in
     stopped (s .args .samples .now) (s .args .tolerance) (s .args .s) (s .args .read) _ _ _ (s .pre) _ _ _ _
-    (r .ensures .1 .0) (r .ensures .0) (r .ensures .1 .1 .0) (r .ensures .1 .1 .1) (c .if1 .taken)
+    (r .ensures .1 .0) (r .ensures .0) (r .ensures .1 .1 .0) (r .ensures .1 .1 .1) (sym (c .before .is-none .ensures) ∙ c .if1 .taken)
 
 accept-requires : tie.Need-accept-requires
 accept-requires c κs =
@@ -80,13 +84,15 @@ returns-2 c =
     let r = row-taken' p .take-row in
     let s = start (row-taken' p) in
     went-on (s .args .samples .now) (s .args .tolerance) (s .args .s) (s .args .read) _ _ _ (s .pre) _ _ _ _
-    (r .ensures .1 .0) (r .ensures .0) (r .ensures .1 .1 .0) (r .ensures .1 .1 .1) _ _ (a .accept .ensures) (p .if1 .left)
+    (r .ensures .1 .0) (r .ensures .0) (r .ensures .1 .1 .0) (r .ensures .1 .1 .1)
+    _ _ (a .accept .ensures) (sym (p .before .is-none .ensures) ∙ p .if1 .left)
 
 pub advance-spec : {M : Type 1} → statement M
 advance-spec =
     tie.close
     (tie.spec
     take-row-requires
+    is-none-requires
     same-length
     same-length-2
     same-length-3

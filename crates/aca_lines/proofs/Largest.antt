@@ -1,4 +1,4 @@
--- The masked argmax: one entry more is larger and counts, is larger and does not, or is not larger; where it is; and what it
+-- The masked argmax: one entry more is larger and counts, does not count, or is not larger; where it is; and what it
 -- depends on. Assumes nothing.
 use mathlib.Core.Path.{_≡_, refl, ap, _∙_}
 use mathlib.Core.Bool.{Bool, true, false, _&&_}
@@ -10,34 +10,26 @@ use lib.Ieee.{Float, nan, lt, ofBits, ofFields, odd}
 use lib.ListN.{length, getD, List·getD-eq-default}
 use Rattle.common.specs.Floats.{zero₆₄, size}
 use Rattle.common.proofs.Cases.{by-bool}
-use Rattle.aca_lines.specs.Largest.{Best, best, argmax, pivot}
+use Rattle.aca_lines.specs.Largest.{best, argmax, pivot}
 use Rattle.aca_lines.specs.declared.Pivot.{Pivot}
+use Rattle.aca_lines.specs.declared.search.Best.{Best}
 
--- what a loop holds after k entries
-pub record Largest (l : List Float) (on : ℕ → Bool) (k place : ℕ) (worth : Float) : Type 0 where
-  pub place-is : place ≡ best k l on .place
-  pub worth-is : worth ≡ best k l on .worth
-
--- the same, under other names
-pub again : {l : List Float} {on : ℕ → Bool} {k y z : ℕ} {x v : Float} → Largest l on k z v → y ≡ z → x ≡ v → Largest l on k y x
-again b e f = record { place-is = e ∙ b .place-is; worth-is = f ∙ b .worth-is }
-
-module _ (l : List Float) (on : ℕ → Bool) (k : ℕ) {y : ℕ} {x s : Float} (b : Largest l on k y x) (f : s ≡ size (getD l k nan)) where
-  pub taken : on k ≡ true → lt x s ≡ true → Largest l on (k + 1) k s
+module _ (l : List Float) (on : ℕ → Bool) (k : ℕ) {h : Best} {s : Float} (b : h ≡ best k l on) (f : s ≡ size (getD l k nan)) where
+  pub taken : on k ≡ true → lt (h .worth) s ≡ true → _≡_ {A = Best} (record { place = k; worth = s }) (best (k + 1) l on)
   unfolding best
   taken o t =
-      let h : lt (best k l on .worth) (size (getD l k nan)) ≡ true = rw (b .worth-is, f) at t in
-      record { place-is = rw (add-one, o, h); worth-is = rw (add-one, o, h) f }
+      let larger : lt (best k l on .worth) (size (getD l k nan)) ≡ true = rw (b, f) at t in
+      rw (add-one, o, larger, f)
 
-  pub masked : on k ≡ false → Largest l on (k + 1) y x
+  pub masked : on k ≡ false → h ≡ best (k + 1) l on
   unfolding best
-  masked o = record { place-is = rw (add-one, o) (b .place-is); worth-is = rw (add-one, o) (b .worth-is) }
+  masked o = rw (add-one, o) b
 
-  pub passed : lt x s ≡ false → Largest l on (k + 1) y x
+  pub passed : lt (h .worth) s ≡ false → h ≡ best (k + 1) l on
   unfolding best
   passed t =
-      let h : lt (best k l on .worth) (size (getD l k nan)) ≡ false = rw (b .worth-is, f) at t in
-      by-bool (on k) (λ o. record { place-is = rw (add-one, o, h) (b .place-is); worth-is = rw (add-one, o, h) (b .worth-is) }) masked
+      let larger : lt (best k l on .worth) (size (getD l k nan)) ≡ false = rw (b, f) at t in
+      by-bool (on k) (λ o. rw (add-one, o, larger) b) masked
 
 -- THE ANSWER, once all entries are passed
 
@@ -51,19 +43,19 @@ nothing-there : size zero₆₄ ≡ zero₆₄
 unfolding size lt ofBits ofFields odd
 nothing-there = refl
 
-module _ (l : List Float) (on : ℕ → Bool) (n place : ℕ) {worth : Float} (all : n ≡ length l) (b : Largest l on n place worth) where
-  place-found : place ≡ argmax l on
+module _ (l : List Float) (on : ℕ → Bool) (h : Best) (b : h ≡ best (length l) l on) where
+  place-found : h .place ≡ argmax l on
   unfolding argmax
-  place-found = rw all at (b .place-is)
+  place-found = ap (λ (x : Best). x .place) b
 
-  pub pivot-found : {s : Float} → place < length l → s ≡ size (getD l place nan) →
-      _≡_ {A = Pivot} (record { place = place; size = s }) (pivot l on)
+  pub pivot-found : {s : Float} → h .place < length l → s ≡ size (getD l (h .place) nan) →
+      _≡_ {A = Pivot} (record { place = h .place; size = s }) (pivot l on)
   unfolding pivot
-  pivot-found h e = rw (← place-found, e, any-default l place nan zero₆₄ h)
+  pivot-found i e = rw (← place-found, e, any-default l (h .place) nan zero₆₄ i)
 
-  pub pivot-missing : length l ≤ place → _≡_ {A = Pivot} (record { place = place; size = zero₆₄ }) (pivot l on)
+  pub pivot-missing : length l ≤ h .place → _≡_ {A = Pivot} (record { place = h .place; size = zero₆₄ }) (pivot l on)
   unfolding pivot
-  pivot-missing h = rw (← place-found, List·getD-eq-default l zero₆₄ h, nothing-there)
+  pivot-missing i = rw (← place-found, List·getD-eq-default l zero₆₄ i, nothing-there)
 
 -- WHERE IT IS: a place in the list, where that has any
 

@@ -7,12 +7,9 @@ use lib.Ieee.{Float, nan, lt}
 use lib.ListN.{length, getD}
 use Rattle.common.specs.Floats.{zero₆₄, size}
 use Rattle.aca_lines.specs.declared.Pivot.{Pivot}
+use Rattle.aca_lines.specs.declared.search.Best.{Best}
 
 -- the best place among the first n entries, of those at which `on` holds, and its size
-pub record Best : Type 0 where
-  pub place : ℕ
-  pub worth : Float
-
 unfoldable pub best : (n : ℕ) → (entries : List Float) → (on : ℕ → Bool) → Best
 best zero l on = record { place = 0; worth = zero₆₄ }
 best (suc n) l on =

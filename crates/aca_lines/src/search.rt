@@ -1,29 +1,53 @@
 // The place of the largest entry, among those that a mask lets count, and its size.
 ghost use mathlib.Core.Path.{_≡_};
-ghost use Prim.Native.Nat.{_≤_};
+ghost use Prim.Native.Nat.{_+_, _<_, _≤_};
 ghost use lib.ListN.{length};
-ghost use Rattle.aca_lines.specs.Largest.{counts, pivot};
+ghost use Rattle.aca_lines.specs.Largest.{best, counts, pivot};
 use crate::Pivot;
 
-// Few entries are larger than all before them, so that is asked first: the mask is seldom read.
+// The largest of the entries before some place, and its size.
+struct Best {
+    place: usize,
+    worth: f64,
+}
+
+// The best of the first k + 1 entries, given that of the first k. Few entries are larger than all before them, so that is asked
+// first: the mask is seldom read.
+fn better(entries: &[f64], mask: &[u8], k: usize, held: Best) -> Best
+    requires { ⌜ length (now entries) ≤ length (now mask) ⌝ }
+    requires { ⌜ k < length (now entries) ⌝ }
+    requires { ⌜ held ≡ best k (now entries) (counts (now mask)) ⌝ }
+    ensures { λ r. ⌜ r ≡ best (k + 1) (now (entries .entry)) (counts (now (mask .entry))) ⌝ }
+{
+    let s = common::size_of(entries[k]);
+    if held.worth < s {
+        if mask[k] == 1 {
+            return Best { place: k, worth: s };
+        }
+    }
+    held
+}
+
+// Two entries a turn: half the turns are half the counting.
 pub fn pick(entries: &[f64], mask: &[u8]) -> Pivot
     requires { ⌜ length (now entries) ≤ length (now mask) ⌝ }
     ensures { λ r. ⌜ r ≡ pivot (now (entries .entry)) (counts (now (mask .entry))) ⌝ }
 {
     let n = entries.len();
-    let mut place = 0;
-    let mut worth = 0.0;
+    let mut largest = Best {
+        place: 0,
+        worth: 0.0,
+    };
     let mut k = 0;
-    while k < n {
-        let s = common::size_of(entries[k]);
-        if worth < s {
-            if mask[k] == 1 {
-                place = k;
-                worth = s;
-            }
-        }
-        k += 1;
+    while 2 <= n - k {
+        largest = better(entries, mask, k, largest);
+        largest = better(entries, mask, k + 1, largest);
+        k += 2;
     }
+    if k < n {
+        largest = better(entries, mask, k, largest);
+    }
+    let place = largest.place;
     if place < n {
         return Pivot {
             place,

@@ -12,7 +12,7 @@ struct Best {
 }
 
 // The best of the first k + 1 entries, given that of the first k. Few entries are larger than all before them, so that is asked
-// first: the mask is seldom read.
+// first: the mask is seldom read. What is held is handed back early, so that it is not copied in the loop.
 fn better(entries: &[f64], mask: &[u8], k: usize, held: Best) -> Best
     requires { ⌜ length (now entries) ≤ length (now mask) ⌝ }
     requires { ⌜ k < length (now entries) ⌝ }
@@ -20,12 +20,13 @@ fn better(entries: &[f64], mask: &[u8], k: usize, held: Best) -> Best
     ensures { λ r. ⌜ r ≡ best (k + 1) (now (entries .entry)) (counts (now (mask .entry))) ⌝ }
 {
     let s = common::size_of(entries[k]);
-    if held.worth < s {
-        if mask[k] == 1 {
-            return Best { place: k, worth: s };
-        }
+    if !(held.worth < s) {
+        return held;
     }
-    held
+    if mask[k] != 1 {
+        return held;
+    }
+    Best { place: k, worth: s }
 }
 
 // Two entries a turn: half the turns are half the counting.
@@ -39,7 +40,7 @@ pub fn pick(entries: &[f64], mask: &[u8]) -> Pivot
         worth: 0.0,
     };
     let mut k = 0;
-    while 2 <= n - k {
+    while k + 1 < n {
         largest = better(entries, mask, k, largest);
         largest = better(entries, mask, k + 1, largest);
         k += 2;

@@ -1,5 +1,5 @@
 -- `aca_lines::search::better` meets its contract: entry k is larger and counts, does not count, or is not larger. Assumes nothing.
-use borrow.Author.Tests.{eq-eqb, ne-eqb}
+use borrow.Author.Tests.{eq-eqb, ne-eqb, not-true, not-false}
 use Rattle.aca_lines.specs.Largest.{counts}
 use Rattle.aca_lines.proofs.Largest.{taken, passed, masked}
 use borrow.Author.Needs.{needs}
@@ -15,27 +15,27 @@ shared-slice-read-size-of c = search needs
 size-of-requires : tie.Need-size-of-requires
 size-of-requires c κs = search needs
 
+returns : tie.Need-returns
+returns c =
+    let start = c .before .before .before .before .before .before in
+    passed _ _ _ (start .pre .1 .1) (c .before .before .size-of .ensures) (not-true _ (c .if1 .taken))
+
 shared-slice-read-if2 : tie.Need-shared-slice-read-if2
 shared-slice-read-if2 c = search needs
-
-returns : tie.Need-returns
-unfolding counts
-returns c =
-    let start = c .before .before .before .before .before .before .before .before in
-    let size-is = c .before .before .before .before .size-of .ensures in
-    taken _ _ _ (start .pre .1 .1) size-is (eq-eqb _ _ (c .if2 .taken)) (c .before .before .if1 .taken)
 
 returns-2 : tie.Need-returns-2
 unfolding counts
 returns-2 c =
     let start = c .before .before .before .before .before .before .before .before in
     let size-is = c .before .before .before .before .size-of .ensures in
-    masked _ _ _ (start .pre .1 .1) size-is (ne-eqb _ _ (c .if2 .left))
+    masked _ _ _ (start .pre .1 .1) size-is (ne-eqb _ _ (c .if2 .taken))
 
 returns-3 : tie.Need-returns-3
+unfolding counts
 returns-3 c =
-    let start = c .before .before .before .before .before .before in
-    passed _ _ _ (start .pre .1 .1) (c .before .before .size-of .ensures) (c .if1 .left)
+    let start = c .before .before .before .before .before .before .before .before in
+    let size-is = c .before .before .before .before .size-of .ensures in
+    taken _ _ _ (start .pre .1 .1) size-is (eq-eqb _ _ (c .if2 .left)) (not-false _ (c .before .before .if1 .left))
 
 pub better-spec : {M : Type 1} → statement M
 better-spec =
@@ -44,7 +44,7 @@ better-spec =
     mul-size-of
     shared-slice-read-size-of
     size-of-requires
-    shared-slice-read-if2
     returns
+    shared-slice-read-if2
     returns-2
     returns-3)

@@ -60,8 +60,8 @@ pub struct Buffers<'a> {
     pub row_list: &'a mut [u16],
     /// k entries. They become the columns that were read, in order; unused places stay as lent.
     pub column_list: &'a mut [u16],
-    /// n entries, room to work in. They become the row that was last worked on, if one was: scaled,
-    /// unless it was spent.
+    /// n entries, room to work in. They become the row that was last worked on, if one was:
+    /// multiplied by 1/pivot, unless it was spent.
     pub row: &'a mut [f64],
     /// m entries, room to work in. They become the column that was last worked on, if one was.
     pub column: &'a mut [f64],

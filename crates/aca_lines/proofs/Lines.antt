@@ -29,7 +29,8 @@ dot-part n at e a b end =
     sums-cong n (λ i. times (entry part i) (entry b i)) (λ i. times (getD a (at + i) nan) (entry b i))
     (λ i h. ap (λ (x : Float). times x (entry b i)) (part-read at e n a i nan end h))
 
-pub part-in : (n at e : ℕ) (a : List Float) → e ≡ at + n → at + n ≤ length a → (s : ℕ) → s < n → 0 + 1 * s < length (take (e - at) (drop at a))
+pub part-in : (n at e : ℕ) (a : List Float) → e ≡ at + n → at + n ≤ length a → (s : ℕ) → s < n →
+    0 + 1 * s < length (take (e - at) (drop at a))
 part-in n at e a end fits s b = rw (one-mul s, zero-add s, part-length at e n a end fits) b
 
 -- a line of the block from which the terms' sums, which stood in a list, were subtracted

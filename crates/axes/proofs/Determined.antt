@@ -18,7 +18,10 @@ scale-points-determined : (D P : ℕ) (side : Float) (centre points exit exit' :
 scale-points-determined D P side centre points exit exit' = coincide exit exit' (columnMajor P D (coordinate P side centre points))
 
 fill-axes-determined : (D p P : ℕ) (side : Float) (with : Bool) (points polynomials slopes f f' d d' : List Float) →
-    (f ≡ columnMajor P (D * p) (axesAt (S p polynomials) p P points)) × (d ≡ cond with (columnMajor P (D * p) (axesAt (S′ p side polynomials) p P points)) slopes) →
-    (f' ≡ columnMajor P (D * p) (axesAt (S p polynomials) p P points)) × (d' ≡ cond with (columnMajor P (D * p) (axesAt (S′ p side polynomials) p P points)) slopes) →
+    (f ≡ columnMajor P (D * p) (axesAt (S p polynomials) p P points)) ×
+    (d ≡ cond with (columnMajor P (D * p) (axesAt (S′ p side polynomials) p P points)) slopes) →
+    (f' ≡ columnMajor P (D * p) (axesAt (S p polynomials) p P points)) ×
+    (d' ≡ cond with (columnMajor P (D * p) (axesAt (S′ p side polynomials) p P points)) slopes) →
     (f ≡ f') × (d ≡ d')
-fill-axes-determined D p P side with points polynomials slopes f f' d d' h h' = (coincide f f' _ (h .0) (h' .0), coincide d d' _ (h .1) (h' .1))
+fill-axes-determined D p P side with points polynomials slopes f f' d d' h h' =
+    (coincide f f' _ (h .0) (h' .0), coincide d d' _ (h .1) (h' .1))

@@ -30,7 +30,8 @@ part list at n = take (at + n - at) (drop at list)
 module _ (D P : ℕ) (l : Float) (centre before : List Float) where
   pub axis-coordinateIn : length before ≡ D * P → (now next : List Float) (axis at : ℕ) →
       Stepping 0 D P (cell P (coordinate P l centre before)) before now axis at → axis < D →
-      next ≡ stretch at P (λ i. coordinateIn l (getD centre axis nan) (getD now (at + i) nan)) now → Stepping 0 D P (cell P (coordinate P l centre before)) before next (axis + 1) (at + P)
+      next ≡ stretch at P (λ i. coordinateIn l (getD centre axis nan) (getD now (at + i) nan)) now →
+      Stepping 0 D P (cell P (coordinate P l centre before)) before next (axis + 1) (at + P)
   axis-coordinateIn whole now next axis at h m e =
       let place : at ≡ axis * P = h .place ∙ zero-add (axis * P) in
       let fits = column-fits axis D P (axis * P) m refl in
@@ -49,7 +50,8 @@ module _ (t : ℕ → Float → Float) (finish : Float → Float) (p P : ℕ) (x
       summed ≡ stretch at (p * P) (cell P (sumOf p P columns polynomials)) l →
       next ≡ stretch at (p * P) (λ k. finish (getD summed (at + k) nan)) summed → next ≡ stretch at (p * P) (cell P finished) l
   axis-finished columns l summed next at c fits s e =
-      let sum : (i n : ℕ) → i < P → sumOf p P columns polynomials i n ≡ sums p (λ k. times (t k (getD x i nan)) (matrix p polynomials n k)) =
+      let sum : (i n : ℕ) → i < P → sumOf p P columns polynomials i n ≡ sums p
+      (λ k. times (t k (getD x i nan)) (matrix p polynomials n k)) =
       λ i n b. sums-cong p _ _ (λ k m. rw (c, column-entry P (λ r j. t j (getD x r nan)) p i k nan b m)) in
       let entry : (k : ℕ) → k < p * P → finish (getD summed (at + k) nan) ≡ cell P finished k =
       λ k b. ap finish (rw s (stretch-inside at (cell P (sumOf p P columns polynomials)) l (p * P) k nan b (omega arith))
@@ -96,4 +98,10 @@ module _ (t : ℕ → Float → Float) (p P : ℕ) (points : List Float) where
   axis-block axis from e j b =
       let some = some-rows p P j b in
       let node : j / P < p = div-lt-iff-lt-mul some .1 b in
-      sym (cell-block P axesAt p axis j b ∙ rw (digits-mod axis node, digits-div axis node, part-read from _ P points (j % P) nan refl (mod-lt j some), e))
+      sym (cell-block P axesAt p axis j b ∙ rw (
+        digits-mod axis node,
+        digits-div axis node,
+        part-read from _ P points (j % P) nan refl
+            (mod-lt j some),
+        e,
+      ))

@@ -77,6 +77,15 @@ pub polynomials-filled : (p P : ℕ) (with : Bool) (x v d v' d' : List Float) (r
     (v' ≡ atPoints T p P x) × (d' ≡ cond with (atPoints T′ p P x) [])
 unfolding polynomialsCall polynomialsNumber
 polynomials-filled p P with x v d v' d' r least most few hx hv hd e =
-    let none : polynomialsNumber p P with (length x) (length v) (length d) ≡ 0 = rw
-    (inside 1 16 p least most, le-leb P 4096 few, eq-eqb (length x) P hx, eq-eqb (length v) (p * P) hv, eq-eqb (length d) (sizeIf with (p * P)) hd) in
-    (ap (λ (t : ℕ × List Float × List Float). t .1) e ∙ left-done _ _ _ none, ap (λ (t : ℕ × List Float × List Float). t .2) e ∙ left-done _ _ _ none)
+    let none : polynomialsNumber p P with (length x) (length v) (length d) ≡ 0 = rw (
+      inside 1 16 p least most,
+      le-leb P 4096 few,
+      eq-eqb (length x) P hx,
+      eq-eqb (length v) (p * P) hv,
+      eq-eqb (length d)
+          (sizeIf with (p * P)) hd,
+    ) in (
+      ap (λ (t : ℕ × List Float × List Float). t .1) e ∙ left-done _ _ _ none,
+      ap (λ (t : ℕ × List Float × List Float). t .2) e
+          ∙ left-done _ _ _ none,
+    )

@@ -57,7 +57,8 @@ module _ (rows : ℕ) where
     back-one e =
         let place = place-one j i at e in
         let e' : at ≡ (j + 1) * rows = rw (add-one j) e in
-        fill-read at (cell rows f) l (at - rows + i) nan (let more = next-column j rows in omega arith) ∙ ap (cell rows f) place ∙ cell-at rows f i j h
+        fill-read at (cell rows f) l (at - rows + i) nan (let more = next-column j rows in omega arith) ∙ ap (cell rows f) place
+        ∙ cell-at rows f i j h
 
     back-two : at ≡ suc (suc j) * rows → getD (stretch 0 at (cell rows f) l) (at - rows - rows + i) nan ≡ f i j
     back-two e =
@@ -103,7 +104,8 @@ module _ (rows : ℕ) (x : List Float) where
     unfolding T′
     slopes-filled l' now' fits' made' =
         column-filled rows entryT′ l' now' j at e fits' _ _ _ (λ i. refl) (λ i. refl)
-        (λ k i q h. let one : getD now' (at - rows + i) nan ≡ entryT′ i (suc k) = rw made' (back-one rows entryT′ l' (suc k) i at h (rw q at e)) in
+        (λ k i q h. let one : getD now' (at - rows + i) nan ≡ entryT′ i (suc k) = rw made'
+        (back-one rows entryT′ l' (suc k) i at h (rw q at e)) in
         let two : getD now' (at - rows - rows + i) nan ≡ entryT′ i k = rw made' (back-two rows entryT′ l' k i at h (rw q at e)) in
         rw (value-before (suc k) i q h, one, two)) made'
 

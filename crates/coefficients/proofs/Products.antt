@@ -73,7 +73,8 @@ module _ (D p P g s t : ℕ) (starts factors : List Float) (shape : Shape D p) (
       record {
         shape = shape;
         few = few;
-        axis = each-three g s t (λ n. n < D) axis (rw second (second-below D g (shape .dimension-least))) (rw third (third-below D g (shape .dimension-least)));
+        axis = each-three g s t (λ n. n < D) axis (rw second (second-below D g (shape .dimension-least)))
+            (rw third (third-below D g (shape .dimension-least)));
         long = each-three starts factors factors (λ l. length l ≡ D * p * P) a b b;
       }
 
@@ -116,8 +117,12 @@ module _ (D p P f s t : ℕ) (F S T : List Float) (h : Sources D p P (three f s 
   pub source-room : (k : ℕ) → (placeOf D p P k f + P ≤ length F) × (placeOf D p P k s + P ≤ length S) × (placeOf D p P k t + P ≤ length T)
   unfolding three
   source-room k =
-      let some = h .shape .order-least in
-      (rw (h .long 0) (place-fits D p P k f some (h .axis 0)), rw (h .long 1) (place-fits D p P k s some (h .axis 1)), rw (h .long 2) (place-fits D p P k t some (h .axis 2)))
+      let some = h .shape .order-least in (
+        rw (h .long 0) (place-fits D p P k f some (h .axis 0)),
+        rw (h .long 1) (place-fits D p P k s some (h .axis 1)),
+        rw (h .long 2)
+            (place-fits D p P k t some (h .axis 2)),
+      )
 
 -- the product of a node's columns, as they are lent
 chain-cong : (n : ℕ) (f g : ℕ → Float) → ((m : ℕ) → f m ≡ g m) → chain n f ≡ chain n g

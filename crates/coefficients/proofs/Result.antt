@@ -56,7 +56,8 @@ module _ (D p P : ℕ) (t : List Float) (x : (i a : ℕ) → Float) (some : 1 �
     unfolding value
     values-right one =
         column-cong P (startedOf D p P 0 factors factors) (p ^ D) (value D p t x)
-        (λ i k b m. others-cong 0 _ _ D _ _ (axis-entry (S p t) factors made i k 0 b one) (λ a h z. axis-entry (S p t) factors made i k a b h)
+        (λ i k b m. others-cong 0 _ _ D _ _ (axis-entry (S p t) factors made i k 0 b one)
+        (λ a h z. axis-entry (S p t) factors made i k a b h)
         ∙ sym (products-at D (factor D p t x i k) one (S-fits p t _ _)))
 
     gradients-right : (side : Float) (slopes : List Float) → slopes ≡ columnMajor P (D * p) (onAxes (S′ p side t) p x) →

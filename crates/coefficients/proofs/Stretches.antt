@@ -44,7 +44,8 @@ module _ (D p P : ℕ) (slopes factors : List Float) (axis : ℕ) where
   -- a call that was lent the axis's part has filled it
   pub gradient-more : (before now filled : List Float) (N at : ℕ) → N ≡ p ^ D → axis < D → length before ≡ D * p ^ D * P →
       Stepping 0 D (N * P) (cell P (gradientOf D p P slopes factors)) before now axis at → filled ≡ columnMajor P (p ^ D) column →
-      Stepping 0 D (N * P) (cell P (gradientOf D p P slopes factors)) before (putMid at (at + N * P - at) now filled) (axis + 1) (at + N * P)
+      Stepping 0 D (N * P) (cell P (gradientOf D p P slopes factors)) before (putMid at (at + N * P - at) now filled) (axis + 1)
+      (at + N * P)
   unfolding columnMajor
   gradient-more before now filled N at n l long h f =
       let room : 0 + D * (N * P) ≤ length before = rw (n, ← mul-assoc) (omega arith) in

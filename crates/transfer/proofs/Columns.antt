@@ -41,12 +41,14 @@ module _ (p : ℕ) (nodes poly : List Float) where
       x ≡ childNode p nodes c →
       factor ≡ over two₆₄ (float p) → offset ≡ over one₆₄ (float p) →
       start ≡ stretch 0 at (cell p (operator p nodes poly)) l → summed ≡ stretch at p (partOf p poly x p) start → length start ≡ length l →
-      stretch at p (λ i. minus (times (getD summed (at + i) nan) factor) offset) summed ≡ stretch 0 (at + p) (cell p (operator p nodes poly)) l
+      stretch at p (λ i. minus (times (getD summed (at + i) nan) factor) offset) summed
+      ≡ stretch 0 (at + p) (cell p (operator p nodes poly)) l
   unfolding operator
   column-done l start summed c at x factor offset e fits hx hf ho hs hm long =
       let room : at + p ≤ length start = omega arith in
       let entry : (i : ℕ) → i < p → minus (times (getD summed (at + i) nan) factor) offset ≡ operator p nodes poly i c =
-      λ i b. let inside : getD summed (at + i) nan ≡ partOf p poly x p i = rw hm (stretch-inside at (partOf p poly x p) start p i nan b (omega arith)) in
+      λ i b. let inside : getD summed (at + i) nan ≡ partOf p poly x p i = rw hm
+      (stretch-inside at (partOf p poly x p) start p i nan b (omega arith)) in
       rw (inside, hf, ho, hx) in
       let column : ℕ → Float = λ i. operator p nodes poly i c in
       stretch-cong at p _ column summed entry

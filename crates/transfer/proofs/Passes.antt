@@ -59,7 +59,8 @@ lay-more p operator first k now after most lane h e =
     let room : p * 4 ≤ length now = omega (arith, h .long) in
     record {
       long = ap length e ∙ length-stores (λ s. k + 4 * s) (operator (first + k)) p now ∙ h .long;
-      entries = λ i s b b'. rw e (rows-more 4 p (λ i s. operator (first + i) s) now nan k (operator (first + k)) lane room (h .entries) (λ _ _. refl) i s b b');
+      entries = λ i s b b'. rw e (rows-more 4 p (λ i s. operator (first + i) s) now nan k (operator (first + k)) lane room (h .entries)
+          (λ _ _. refl) i s b b');
     }
 
 -- a further term is added to each sum
@@ -138,7 +139,8 @@ unfolding along operatorHalf
 along-block p width child axis side end transpose operators values e e' long =
     let two : side < 2 = rw e (mod-lt (child / 2 ^ axis) (omega arith)) in
     passed-cong p width (matrix p values) _ _
-    (directed-cong transpose _ _ p (λ r s b b'. block-entry p side operators two long end r s e' b b' ∙ ap (λ (n : ℕ). matrix p operators r (n * p + s)) e))
+    (directed-cong transpose _ _ p (λ r s b b'. block-entry p side operators two long end r s e' b b'
+    ∙ ap (λ (n : ℕ). matrix p operators r (n * p + s)) e))
 
 -- THE BUFFERS after the passes of one, two and three axes, each of width w
 

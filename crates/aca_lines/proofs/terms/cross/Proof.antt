@@ -46,7 +46,12 @@ dot-with-requires-2 : tie.Need-dot-with-requires-2 Inv-loop μ-loop
 dot-with-requires-2 c κs =
     let s = c .before .before .before .before .before .before .before in
     let l = c .before .before .loop in
-    rw (l .inv .1) (omega (arith, column-fits (l .l) (s .args .k) (length (s .args .row .now)) _ (c .before .loop-test .taken) refl, s .pre .1))
+    rw (l .inv .1) (omega (
+      arith,
+      column-fits (l .l) (s .args .k) (length (s .args .row .now)) _
+          (c .before .loop-test .taken) refl,
+      s .pre .1,
+    ))
 
 add-l : tie.Need-add-l Inv-loop μ-loop
 add-l c = search needs

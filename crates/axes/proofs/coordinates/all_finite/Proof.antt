@@ -37,7 +37,8 @@ returns : tie.Need-returns Inv-loop μ-loop
 unfolding allFinite
 returns c =
     let l = c .before .before .before .before .loop in
-    sym (each-not _ (λ j. finite (getD (c .before .before .before .before .before .before .args .list .now) j nan)) (l .i) (c .before .before .before .loop-test .taken) (sym (c .before .is-finite .ensures) ∙ of-not _ true (c .if1 .taken)))
+    sym (each-not _ (λ j. finite (getD (c .before .before .before .before .before .before .args .list .now) j nan)) (l .i)
+    (c .before .before .before .loop-test .taken) (sym (c .before .is-finite .ensures) ∙ of-not _ true (c .if1 .taken)))
 
 add-i : tie.Need-add-i Inv-loop μ-loop
 add-i c = search needs
@@ -47,8 +48,11 @@ loop-less c = search needs
 
 loop-again : tie.Need-loop-again Inv-loop μ-loop
 loop-again c =
-    let l = c .before .before .before .before .loop in
-    (omega arith, each-more (l .i) (λ j. finite (getD (c .before .before .before .before .before .before .args .list .now) j nan)) (l .inv .1) (sym (c .before .is-finite .ensures) ∙ of-not _ false (c .if1 .left)))
+    let l = c .before .before .before .before .loop in (
+      omega arith,
+      each-more (l .i) (λ j. finite (getD (c .before .before .before .before .before .before .args .list .now) j nan))
+          (l .inv .1) (sym (c .before .is-finite .ensures) ∙ of-not _ false (c .if1 .left)),
+    )
 
 returns-2 : tie.Need-returns-2 Inv-loop μ-loop
 unfolding allFinite

@@ -10,13 +10,15 @@ use Rattle.axes.proofs.coordinates.scale_axis.Statement.{statement}
 use Rattle.axes.proofs.coordinates.scale_axis.Tie as tie
 
 abbrev Inv-loop : tie.InvT-loop
-Inv-loop rows length centre at points₀ half i₀ points i = Filling at rows (λ j. coordinateIn length centre (getD points₀ (at + j) nan)) points₀ points i
+Inv-loop rows length centre at points₀ half i₀ points i = Filling at rows
+    (λ j. coordinateIn length centre (getD points₀ (at + j) nan)) points₀ points i
 
 abbrev μ-loop : tie.MeasureT-loop
 μ-loop rows length centre at points₀ half i₀ points i = rows - i
 
 loop-holds : tie.Need-loop-holds Inv-loop μ-loop
-loop-holds c = let a = c .before .args in filling-none (a .at) (a .rows) (λ j. coordinateIn (a .side) (a .centre) (getD (a .points .now) (a .at + j) nan)) _
+loop-holds c = let a = c .before .args in filling-none (a .at) (a .rows)
+    (λ j. coordinateIn (a .side) (a .centre) (getD (a .points .now) (a .at + j) nan)) _
 
 add-t11 : tie.Need-add-t11 Inv-loop μ-loop
 add-t11 c = search needs
@@ -50,7 +52,9 @@ unfolding coordinateIn
 loop-again c =
     let s = c .before .before .before .before .before in
     let a = s .args in
-    changing-more (a .at) (a .rows) (λ j. coordinateIn (a .side) (a .centre) (getD (a .points .now) (a .at + j) nan)) _ (coordinateIn (a .side) (a .centre)) _ _ _ nan _ (c .before .before .before .loop .inv) (c .before .before .loop-test .taken) (s .pre) refl refl (c .scale .ensures)
+    changing-more (a .at) (a .rows) (λ j. coordinateIn (a .side) (a .centre) (getD (a .points .now) (a .at + j) nan)) _
+    (coordinateIn (a .side) (a .centre)) _ _ _ nan _ (c .before .before .before .loop .inv) (c .before .before .loop-test .taken)
+    (s .pre) refl refl (c .scale .ensures)
 
 same-length : tie.Need-same-length Inv-loop μ-loop
 same-length c = c .before .loop .inv .long
@@ -58,7 +62,8 @@ same-length c = c .before .loop .inv .long
 returns : tie.Need-returns Inv-loop μ-loop
 returns c =
     let a = c .before .before .before .args in
-    filling-done (a .at) (a .rows) (λ j. coordinateIn (a .side) (a .centre) (getD (a .points .now) (a .at + j) nan)) _ _ _ (c .before .loop .inv) (c .loop-test .left)
+    filling-done (a .at) (a .rows) (λ j. coordinateIn (a .side) (a .centre) (getD (a .points .now) (a .at + j) nan)) _ _ _
+    (c .before .loop .inv) (c .loop-test .left)
 
 pub scale-axis-spec : {M : Type 1} → statement M
 scale-axis-spec =

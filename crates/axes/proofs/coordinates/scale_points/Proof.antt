@@ -1,4 +1,5 @@
--- `axes::coordinates::scale_points` meets its contract. The loop keeps `Stepping`: the axes before `axis` are coordinateIn. Assumes nothing.
+-- `axes::coordinates::scale_points` meets its contract. The loop keeps `Stepping`: the axes before `axis` are coordinateIn. Assumes
+-- nothing.
 use borrow.Author.Needs.{needs}
 use mathlib.Core.Path.{_∙_}
 use Prim.Native.Nat.{_+_, _-_, _≤_}
@@ -13,7 +14,8 @@ use Rattle.axes.proofs.coordinates.scale_points.Statement.{statement}
 use Rattle.axes.proofs.coordinates.scale_points.Tie as tie
 
 abbrev Inv-loop : tie.InvT-loop
-Inv-loop dimension rows length centre points₀ axis₀ at₀ points axis at = Stepping 0 dimension rows (cell rows (coordinate rows length centre points₀)) points₀ points axis at
+Inv-loop dimension rows length centre points₀ axis₀ at₀ points axis at = Stepping 0 dimension rows
+    (cell rows (coordinate rows length centre points₀)) points₀ points axis at
 
 abbrev μ-loop : tie.MeasureT-loop
 μ-loop dimension rows length centre points₀ axis₀ at₀ points axis at = dimension - axis
@@ -24,11 +26,13 @@ room : (c : tie.In-loop Inv-loop μ-loop) →
 room c =
     let s = c .before .before .before .before in
     let a = s .args in
-    let fits = stepping-fits 0 (a .dimension) (a .rows) (cell (a .rows) (coordinate (a .rows) (a .side) (a .centre .now) (a .points .now))) _ _ _ _ (c .before .loop .inv) (c .loop-test .taken) in
+    let fits = stepping-fits 0 (a .dimension) (a .rows) (cell (a .rows)
+    (coordinate (a .rows) (a .side) (a .centre .now) (a .points .now))) _ _ _ _ (c .before .loop .inv) (c .loop-test .taken) in
     omega (arith, fits, c .before .loop .inv .long, s .pre .2)
 
 loop-holds : tie.Need-loop-holds Inv-loop μ-loop
-loop-holds c = let a = c .before .before .args in stepping-none 0 (a .dimension) (a .rows) (cell (a .rows) (coordinate (a .rows) (a .side) (a .centre .now) (a .points .now))) _
+loop-holds c = let a = c .before .before .args in stepping-none 0 (a .dimension) (a .rows)
+    (cell (a .rows) (coordinate (a .rows) (a .side) (a .centre .now) (a .points .now))) _
 
 mul-scale-axis : tie.Need-mul-scale-axis Inv-loop μ-loop
 mul-scale-axis c = omega (arith, c .before .before .before .before .pre .0, c .loop-test .taken)
@@ -42,7 +46,13 @@ scale-axis-requires c κs = room (c .before .before)
 add-at : tie.Need-add-at Inv-loop μ-loop
 add-at c =
     let s = c .before .before .before .before .before .before .before .before .before in
-    omega (arith, room (c .before .before .before .before .before), c .before .before .before .before .before .before .loop .inv .long, s .good)
+    omega (
+      arith,
+      room (c .before .before .before .before .before),
+      c .before .before .before .before .before .before .loop .inv .long,
+      s
+          .good,
+    )
 
 add-axis : tie.Need-add-axis Inv-loop μ-loop
 add-axis c = search needs
@@ -54,7 +64,9 @@ loop-again : tie.Need-loop-again Inv-loop μ-loop
 loop-again c =
     let s = c .before .before .before .before .before .before .before .before .before in
     let a = s .args in
-    axis-coordinateIn (a .dimension) (a .rows) (a .side) (a .centre .now) (a .points .now) (s .pre .2) _ _ _ _ (c .before .before .before .before .before .before .loop .inv) (c .before .before .before .before .before .loop-test .taken) (c .before .before .scale-axis .ensures)
+    axis-coordinateIn (a .dimension) (a .rows) (a .side) (a .centre .now) (a .points .now) (s .pre .2) _ _ _ _
+    (c .before .before .before .before .before .before .loop .inv) (c .before .before .before .before .before .loop-test .taken)
+    (c .before .before .scale-axis .ensures)
 
 same-length : tie.Need-same-length Inv-loop μ-loop
 same-length c = c .before .loop .inv .long
@@ -63,7 +75,8 @@ returns : tie.Need-returns Inv-loop μ-loop
 returns c =
     let s = c .before .before .before .before in
     let a = s .args in
-    stepping-done 0 (a .dimension) (a .rows) (cell (a .rows) (coordinate (a .rows) (a .side) (a .centre .now) (a .points .now))) _ _ _ _ (c .before .loop .inv) (c .loop-test .left)
+    stepping-done 0 (a .dimension) (a .rows) (cell (a .rows) (coordinate (a .rows) (a .side) (a .centre .now) (a .points .now))) _ _ _ _
+    (c .before .loop .inv) (c .loop-test .left)
     ∙ columns-filled (a .rows) (coordinate (a .rows) (a .side) (a .centre .now) (a .points .now)) (a .dimension) _ (s .pre .2)
 
 pub scale-points-spec : {M : Type 1} → statement M

@@ -18,29 +18,36 @@ use Rattle.axes.proofs.factors.fill_axes.Statement.{statement}
 use Rattle.axes.proofs.factors.fill_axes.Tie as tie
 
 abbrev Inv-loop : tie.InvT-loop
-Inv-loop box with-gradients points node-polynomials values₀ gradients₀ factors₀ slopes₀ dimension order rows count derived axis₀ from₀ at₀ values gradients factors slopes axis from at =
+Inv-loop box with-gradients points node-polynomials values₀ gradients₀ factors₀ slopes₀ dimension order rows count derived axis₀ from₀ at₀
+    values gradients factors slopes axis from at =
     (from ≡ axis * rows) × (length values ≡ length values₀) × (length gradients ≡ length gradients₀) × (length slopes ≡ length slopes₀) ×
     Stepping 0 dimension count (cell rows (axesAt (S (box .order) node-polynomials) (box .order) rows points)) factors₀ factors axis at ×
-    (slopes ≡ cond with-gradients (stretch 0 (axis * count) (cell rows (axesAt (S′ (box .order) (box .side) node-polynomials) (box .order) rows points)) slopes₀) slopes₀)
+    (slopes ≡ cond with-gradients (stretch 0 (axis * count) (cell rows (axesAt (S′ (box .order) (box .side) node-polynomials)
+    (box .order) rows points)) slopes₀) slopes₀)
 
 abbrev μ-loop : tie.MeasureT-loop
-μ-loop box with-gradients points node-polynomials values₀ gradients₀ factors₀ slopes₀ dimension order rows count derived axis₀ from₀ at₀ values gradients factors slopes axis from at = dimension - axis
+μ-loop box with-gradients points node-polynomials values₀ gradients₀ factors₀ slopes₀ dimension order rows count derived axis₀ from₀ at₀
+    values gradients factors slopes axis from at = dimension - axis
 
 -- the axis's points, and the room for its columns
 axis-room : (c : tie.In-loop Inv-loop μ-loop) →
-    let a = c .before .before .before .before .before .before .before .before .before .args in c .before .loop .from + a .cell .rows ≤ a .cell .dimension * a .cell .rows
+    let a = c .before .before .before .before .before .before .before .before .before .args in c .before .loop .from + a .cell .rows ≤ a
+    .cell .dimension * a .cell .rows
 axis-room c =
     let a = c .before .before .before .before .before .before .before .before .before .args in
-    column-fits (c .before .loop .axis) (a .cell .dimension) (a .cell .rows) (c .before .loop .from) (c .loop-test .taken) (c .before .loop .inv .0)
+    column-fits (c .before .loop .axis) (a .cell .dimension) (a .cell .rows) (c .before .loop .from) (c .loop-test .taken)
+    (c .before .loop .inv .0)
 
 more : (c : tie.In-loop Inv-loop μ-loop) →
-    let a = c .before .before .before .before .before .before .before .before .before .args in c .before .loop .axis * (a .cell .order * a .cell .rows) + a .cell .order * a .cell .rows ≤ a .cell .dimension * a .cell .order * a .cell .rows
+    let a = c .before .before .before .before .before .before .before .before .before .args in c .before .loop .axis *
+    (a .cell .order * a .cell .rows) + a .cell .order * a .cell .rows ≤ a .cell .dimension * a .cell .order * a .cell .rows
 more c =
     let a = c .before .before .before .before .before .before .before .before .before .args in
     rw mul-assoc (column-fits (c .before .loop .axis) (a .cell .dimension) (a .cell .order * a .cell .rows) _ (c .loop-test .taken) refl)
 
 room : (c : tie.In-loop Inv-loop μ-loop) →
-    let a = c .before .before .before .before .before .before .before .before .before .args in c .before .loop .at + a .cell .order * a .cell .rows ≤ a .cell .dimension * a .cell .order * a .cell .rows
+    let a = c .before .before .before .before .before .before .before .before .before .args in c .before .loop .at + a .cell .order * a
+    .cell .rows ≤ a .cell .dimension * a .cell .order * a .cell .rows
 room c = omega (arith, more c, c .before .loop .inv .4 .place)
 
 mul-count : tie.Need-mul-count Inv-loop μ-loop
@@ -54,14 +61,34 @@ size-if-requires c κs = search needs
 
 loop-holds : tie.Need-loop-holds Inv-loop μ-loop
 loop-holds c =
-    let a = c .before .before .before .before .before .before .before .args in
-    (sym (zero-mul _), refl, refl, refl, stepping-none 0 (a .cell .dimension) _ (cell (a .cell .rows) (axesAt (S (a .cell .order) (a .node-polynomials .now)) (a .cell .order) (a .cell .rows) (a .points .now))) _, rw zero-mul (wanted-none (a .with-gradients) (cell (a .cell .rows) (axesAt (S′ (a .cell .order) (a .cell .side) (a .node-polynomials .now)) (a .cell .order) (a .cell .rows) (a .points .now))) _))
+    let a = c .before .before .before .before .before .before .before .args in (
+      sym (zero-mul _),
+      refl,
+      refl,
+      refl,
+      stepping-none 0 (a .cell .dimension) _
+          (cell (a .cell .rows) (axesAt (S (a .cell .order) (a .node-polynomials .now)) (a .cell .order) (a .cell .rows) (a .points .now))) _,
+      rw zero-mul (wanted-none (a .with-gradients) (cell (a .cell .rows) (axesAt
+          (S′ (a .cell .order) (a .cell .side) (a .node-polynomials .now)) (a .cell .order) (a .cell .rows) (a .points .now))) _),
+    )
 
 add-end : tie.Need-add-end Inv-loop μ-loop
-add-end c = omega (arith, axis-room c, c .before .before .before .before .before .before .before .before .before .pre .points, c .before .before .before .before .before .before .before .before .before .good)
+add-end c = omega (
+  arith,
+  axis-room c,
+  c .before .before .before .before .before .before .before .before .before .pre .points,
+  c .before
+      .before .before .before .before .before .before .before .before .good,
+)
 
 mul-fill-axis : tie.Need-mul-fill-axis Inv-loop μ-loop
-mul-fill-axis c = omega (arith, axis-room c, c .before .before .before .before .before .before .before .before .before .pre .points, c .before .before .before .before .before .before .before .before .before .good)
+mul-fill-axis c = omega (
+  arith,
+  axis-room c,
+  c .before .before .before .before .before .before .before .before .before .pre .points,
+  c
+      .before .before .before .before .before .before .before .before .before .good,
+)
 
 sub-fill-axis : tie.Need-sub-fill-axis Inv-loop μ-loop
 sub-fill-axis c = search needs
@@ -73,16 +100,39 @@ part-fill-axis-end : tie.Need-part-fill-axis-end Inv-loop μ-loop
 part-fill-axis-end c = omega (arith, axis-room c, c .before .before .before .before .before .before .before .before .before .pre .points)
 
 slice-relend-prefix-fill-axis : tie.Need-slice-relend-prefix-fill-axis Inv-loop μ-loop
-slice-relend-prefix-fill-axis c = omega (arith, c .before .before .before .before .before .before .before .before .before .before .pre .values, c .before .before .loop .inv .1)
+slice-relend-prefix-fill-axis c = omega (
+  arith,
+  c .before .before .before .before .before .before .before .before .before .before .pre
+      .values,
+  c .before .before .loop .inv .1,
+)
 
 slice-aggregate-fill-axis : tie.Need-slice-aggregate-fill-axis Inv-loop μ-loop
-slice-aggregate-fill-axis c = sym (length-take-le _ _ (omega (arith, c .before .before .before .before .before .before .before .before .before .before .before .pre .values, c .before .before .before .loop .inv .1)))
+slice-aggregate-fill-axis c = sym (length-take-le _ _ (omega (
+  arith,
+  c .before .before .before .before .before .before .before .before
+      .before .before .before .pre .values,
+  c .before .before .before .loop .inv .1,
+)))
 
 slice-relend-prefix-fill-axis-2 : tie.Need-slice-relend-prefix-fill-axis-2 Inv-loop μ-loop
-slice-relend-prefix-fill-axis-2 c = omega (arith, c .before .before .before .before .before .before .before .before .before .before .before .pre .gradients, c .before .before .before .loop .inv .2, c .before .before .before .before .size-if .ensures)
+slice-relend-prefix-fill-axis-2 c = omega (
+  arith,
+  c .before .before .before .before .before .before .before .before .before .before
+      .before .pre .gradients,
+  c .before .before .before .loop .inv .2,
+  c .before .before .before .before .size-if .ensures,
+)
 
 slice-aggregate-fill-axis-2 : tie.Need-slice-aggregate-fill-axis-2 Inv-loop μ-loop
-slice-aggregate-fill-axis-2 c = sym (length-take-le _ _ (omega (arith, c .before .before .before .before .before .before .before .before .before .before .before .before .pre .gradients, c .before .before .before .before .loop .inv .2, c .before .before .before .before .before .size-if .ensures)))
+slice-aggregate-fill-axis-2 c = sym (length-take-le _ _ (omega (
+  arith,
+  c .before .before .before .before .before .before .before .before
+      .before .before .before .before .pre .gradients,
+  c .before .before .before .before .loop .inv .2,
+  c .before .before .before .before
+      .before .size-if .ensures,
+)))
 
 fill-axis-requires : tie.Need-fill-axis-requires Inv-loop μ-loop
 fill-axis-requires c κs =
@@ -96,13 +146,29 @@ fill-axis-requires c κs =
       points = part-length _ _ (a .cell .rows) _ refl (rw (s .pre .points) (axis-room (c .before .before .before .before .before)));
       polynomials = s .pre .polynomials;
       values = length-take-le _ _ (omega (arith, s .pre .values, l .inv .1));
-      derivatives = length-take-le _ _ (omega (arith, s .pre .gradients, l .inv .2, c .before .before .before .before .before .before .before .size-if .ensures)) ∙ c .before .before .before .before .before .before .before .size-if .ensures;
+      derivatives = length-take-le _ _ (omega (
+        arith,
+        s .pre .gradients,
+        l .inv .2,
+        c .before .before .before .before .before .before
+            .before .size-if .ensures,
+      )) ∙ c .before .before .before .before .before .before .before .size-if .ensures;
       factors = omega (arith, room (c .before .before .before .before .before), l .inv .4 .long, s .pre .factors);
-      slopes = wanted-fits (a .with-gradients) _ (a .cell .dimension * a .cell .order * a .cell .rows) _ (room (c .before .before .before .before .before)) (l .inv .3 ∙ s .pre .slopes);
+      slopes = wanted-fits (a .with-gradients) _ (a .cell .dimension * a .cell .order * a .cell .rows) _
+          (room (c .before .before .before .before .before)) (l .inv .3 ∙ s .pre .slopes);
     }
 
 add-at : tie.Need-add-at Inv-loop μ-loop
-add-at c = omega (arith, room (c .before .before .before .before .before .before .before .before .before .before .before .before .before .before), c .before .before .before .before .before .before .before .before .before .before .before .before .before .before .before .before .before .before .before .before .before .before .before .pre .factors, c .before .before .before .before .before .before .before .before .before .before .before .before .before .before .before .before .before .before .before .before .before .before .before .good)
+add-at c = omega (
+  arith,
+  room (c .before .before .before .before .before .before .before .before .before .before .before .before .before
+      .before),
+  c .before .before .before .before .before .before .before .before .before .before .before .before .before .before .before
+      .before .before .before .before .before .before .before .before .pre .factors,
+  c .before .before .before .before .before .before
+      .before .before .before .before .before .before .before .before .before .before .before .before .before .before .before .before
+      .before .good,
+)
 
 add-axis : tie.Need-add-axis Inv-loop μ-loop
 add-axis c = search needs
@@ -112,20 +178,31 @@ loop-less c = search needs
 
 loop-again : tie.Need-loop-again Inv-loop μ-loop
 loop-again c =
-    let s = c .before .before .before .before .before .before .before .before .before .before .before .before .before .before .before .before .before .before .before .before .before .before .before in
+    let s = c .before .before .before .before .before .before .before .before .before .before .before .before .before .before .before
+    .before .before .before .before .before .before .before .before in
     let a = s .args in
-    let l = c .before .before .before .before .before .before .before .before .before .before .before .before .before .before .before .loop in
-    let m = c .before .before .before .before .before .before .before .before .before .before .before .before .before .before .loop-test .taken in
+    let l = c .before .before .before .before .before .before .before .before .before .before .before .before .before .before .before
+    .loop in
+    let m = c .before .before .before .before .before .before .before .before .before .before .before .before .before .before .loop-test
+    .taken in
     let call = c .before .before .before .before .before .before .before .before .fill-axis in (
       omega (arith, next-column (l .axis) (a .cell .rows), l .inv .0),
       search needs,
       search needs,
       search needs,
-      stepping-more 0 (a .cell .dimension) _ (cell (a .cell .rows) (axesAt (S (a .cell .order) (a .node-polynomials .now)) (a .cell .order) (a .cell .rows) (a .points .now))) _ _ _ (l .axis) _ _ (l .inv .4) m (rw (s .pre .factors, mul-assoc) (omega arith))
-          (axis-block (S (a .cell .order) (a .node-polynomials .now)) (a .cell .order) (a .cell .rows) (a .points .now) (l .axis) (l .from) (l .inv .0)) (call .ensures .0),
-      rw (next-column (l .axis) (a .cell .order * a .cell .rows)) (wanted-more (a .with-gradients) (l .axis * (a .cell .order * a .cell .rows)) (l .at) (a .cell .order * a .cell .rows) (cell (a .cell .rows) (axesAt (S′ (a .cell .order) (a .cell .side) (a .node-polynomials .now)) (a .cell .order) (a .cell .rows) (a .points .now))) _ (a .slopes .now) (l .slopes) _
-          (l .inv .4 .place ∙ zero-add _) (axis-block (S′ (a .cell .order) (a .cell .side) (a .node-polynomials .now)) (a .cell .order) (a .cell .rows) (a .points .now) (l .axis) (l .from) (l .inv .0))
-          (wanted-fits (a .with-gradients) _ (a .cell .dimension * a .cell .order * a .cell .rows) _ (more (c .before .before .before .before .before .before .before .before .before .before .before .before .before .before)) (s .pre .slopes)) (l .inv .5) (call .ensures .1)),
+      stepping-more 0 (a .cell .dimension) _ (cell (a .cell .rows) (axesAt (S (a .cell .order) (a .node-polynomials .now))
+          (a .cell .order) (a .cell .rows) (a .points .now))) _ _ _ (l .axis) _ _ (l .inv .4) m (rw (s .pre .factors, mul-assoc) (omega arith))
+          (axis-block (S (a .cell .order) (a .node-polynomials .now)) (a .cell .order) (a .cell .rows) (a .points .now) (l .axis)
+          (l .from) (l .inv .0)) (call .ensures .0),
+      rw (next-column (l .axis) (a .cell .order * a .cell .rows)) (wanted-more (a .with-gradients)
+          (l .axis * (a .cell .order * a .cell .rows)) (l .at) (a .cell .order * a .cell .rows)
+          (cell (a .cell .rows) (axesAt (S′ (a .cell .order) (a .cell .side) (a .node-polynomials .now)) (a .cell .order) (a .cell .rows)
+          (a .points .now))) _ (a .slopes .now) (l .slopes) _
+          (l .inv .4 .place ∙ zero-add _) (axis-block (S′ (a .cell .order) (a .cell .side) (a .node-polynomials .now)) (a .cell .order)
+          (a .cell .rows) (a .points .now) (l .axis) (l .from) (l .inv .0))
+          (wanted-fits (a .with-gradients) _ (a .cell .dimension * a .cell .order * a .cell .rows) _
+          (more (c .before .before .before .before .before .before .before .before .before .before .before .before .before .before))
+          (s .pre .slopes)) (l .inv .5) (call .ensures .1)),
     )
 
 same-length : tie.Need-same-length Inv-loop μ-loop
@@ -146,9 +223,14 @@ returns c =
     let a = s .args in
     let l = c .before .loop in
     let all : l .axis ≡ a .cell .dimension = omega (arith, l .inv .4 .most) in
-    let done = stepping-done 0 (a .cell .dimension) _ (cell (a .cell .rows) (axesAt (S (a .cell .order) (a .node-polynomials .now)) (a .cell .order) (a .cell .rows) (a .points .now))) _ _ _ _ (l .inv .4) (c .loop-test .left) in (
-      rw (← mul-assoc) at done ∙ columns-filled (a .cell .rows) (axesAt (S (a .cell .order) (a .node-polynomials .now)) (a .cell .order) (a .cell .rows) (a .points .now)) (a .cell .dimension * a .cell .order) _ (s .pre .factors),
-      wanted-filled (a .with-gradients) (a .cell .rows) (a .cell .dimension * a .cell .order) (axesAt (S′ (a .cell .order) (a .cell .side) (a .node-polynomials .now)) (a .cell .order) (a .cell .rows) (a .points .now)) _ _ (s .pre .slopes)
+    let done = stepping-done 0 (a .cell .dimension) _ (cell (a .cell .rows)
+    (axesAt (S (a .cell .order) (a .node-polynomials .now)) (a .cell .order) (a .cell .rows) (a .points .now))) _ _ _ _ (l .inv .4)
+    (c .loop-test .left) in (
+      rw (← mul-assoc) at done ∙ columns-filled (a .cell .rows) (axesAt (S (a .cell .order) (a .node-polynomials .now)) (a .cell .order)
+          (a .cell .rows) (a .points .now)) (a .cell .dimension * a .cell .order) _ (s .pre .factors),
+      wanted-filled (a .with-gradients) (a .cell .rows) (a .cell .dimension * a .cell .order)
+          (axesAt (S′ (a .cell .order) (a .cell .side) (a .node-polynomials .now)) (a .cell .order) (a .cell .rows) (a .points .now)) _ _
+          (s .pre .slopes)
           (rw (all, ← mul-assoc) at (l .inv .5)),
     )
 

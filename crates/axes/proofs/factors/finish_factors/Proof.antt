@@ -19,7 +19,8 @@ float-of-requires : tie.Need-float-of-requires Inv-loop μ-loop
 float-of-requires c κs = search needs
 
 loop-holds : tie.Need-loop-holds Inv-loop μ-loop
-loop-holds c = let a = c .before .before .args in filling-none (a .at) (a .count) (λ j. factorOf (a .order) (getD (a .factors .now) (a .at + j) nan)) _
+loop-holds c = let a = c .before .before .args in filling-none (a .at) (a .count)
+    (λ j. factorOf (a .order) (getD (a .factors .now) (a .at + j) nan)) _
 
 add-factors : tie.Need-add-factors Inv-loop μ-loop
 add-factors c = search needs
@@ -50,7 +51,9 @@ unfolding factorOf
 loop-again c =
     let s = c .before .before .before .before .before in
     let a = s .args in
-    changing-more (a .at) (a .count) (λ j. factorOf (a .order) (getD (a .factors .now) (a .at + j) nan)) _ (factorOf (a .order)) _ _ _ nan _ (c .before .before .loop .inv) (c .before .loop-test .taken) (s .pre .1) refl refl (rw (c .before .before .before .float-of .ensures))
+    changing-more (a .at) (a .count) (λ j. factorOf (a .order) (getD (a .factors .now) (a .at + j) nan)) _
+    (factorOf (a .order)) _ _ _ nan _ (c .before .before .loop .inv) (c .before .loop-test .taken) (s .pre .1) refl refl
+    (rw (c .before .before .before .float-of .ensures))
 
 same-length : tie.Need-same-length Inv-loop μ-loop
 same-length c = c .before .loop .inv .long
@@ -58,7 +61,8 @@ same-length c = c .before .loop .inv .long
 returns : tie.Need-returns Inv-loop μ-loop
 returns c =
     let a = c .before .before .before .before .args in
-    filling-done (a .at) (a .count) (λ j. factorOf (a .order) (getD (a .factors .now) (a .at + j) nan)) _ _ _ (c .before .loop .inv) (c .loop-test .left)
+    filling-done (a .at) (a .count) (λ j. factorOf (a .order) (getD (a .factors .now) (a .at + j) nan)) _ _ _ (c .before .loop .inv)
+    (c .loop-test .left)
 
 pub finish-factors-spec : {M : Type 1} → statement M
 finish-factors-spec =

@@ -10,7 +10,8 @@ use Rattle.axes.proofs.factors.finish_slopes.Statement.{statement}
 use Rattle.axes.proofs.factors.finish_slopes.Tie as tie
 
 abbrev Inv-loop : tie.InvT-loop
-Inv-loop order length count at slopes₀ share per-length k₀ slopes k = Filling at count (λ j. slopeOf order length (getD slopes₀ (at + j) nan)) slopes₀ slopes k
+Inv-loop order length count at slopes₀ share per-length k₀ slopes k = Filling at count
+    (λ j. slopeOf order length (getD slopes₀ (at + j) nan)) slopes₀ slopes k
 
 abbrev μ-loop : tie.MeasureT-loop
 μ-loop order length count at slopes₀ share per-length k₀ slopes k = count - k
@@ -19,7 +20,8 @@ float-of-requires : tie.Need-float-of-requires Inv-loop μ-loop
 float-of-requires c κs = search needs
 
 loop-holds : tie.Need-loop-holds Inv-loop μ-loop
-loop-holds c = let a = c .before .before .args in filling-none (a .at) (a .count) (λ j. slopeOf (a .order) (a .side) (getD (a .slopes .now) (a .at + j) nan)) _
+loop-holds c = let a = c .before .before .args in filling-none (a .at) (a .count)
+    (λ j. slopeOf (a .order) (a .side) (getD (a .slopes .now) (a .at + j) nan)) _
 
 add-slopes : tie.Need-add-slopes Inv-loop μ-loop
 add-slopes c = search needs
@@ -50,7 +52,9 @@ unfolding slopeOf
 loop-again c =
     let s = c .before .before .before .before .before in
     let a = s .args in
-    changing-more (a .at) (a .count) (λ j. slopeOf (a .order) (a .side) (getD (a .slopes .now) (a .at + j) nan)) _ (slopeOf (a .order) (a .side)) _ _ _ nan _ (c .before .before .loop .inv) (c .before .loop-test .taken) (s .pre .1) refl refl (rw (c .before .before .before .float-of .ensures))
+    changing-more (a .at) (a .count) (λ j. slopeOf (a .order) (a .side) (getD (a .slopes .now) (a .at + j) nan)) _
+    (slopeOf (a .order) (a .side)) _ _ _ nan _ (c .before .before .loop .inv) (c .before .loop-test .taken) (s .pre .1) refl refl
+    (rw (c .before .before .before .float-of .ensures))
 
 same-length : tie.Need-same-length Inv-loop μ-loop
 same-length c = c .before .loop .inv .long
@@ -58,7 +62,8 @@ same-length c = c .before .loop .inv .long
 returns : tie.Need-returns Inv-loop μ-loop
 returns c =
     let a = c .before .before .before .before .args in
-    filling-done (a .at) (a .count) (λ j. slopeOf (a .order) (a .side) (getD (a .slopes .now) (a .at + j) nan)) _ _ _ (c .before .loop .inv) (c .loop-test .left)
+    filling-done (a .at) (a .count) (λ j. slopeOf (a .order) (a .side) (getD (a .slopes .now) (a .at + j) nan)) _ _ _
+    (c .before .loop .inv) (c .loop-test .left)
 
 pub finish-slopes-spec : {M : Type 1} → statement M
 finish-slopes-spec =

@@ -24,8 +24,10 @@ abbrev μ-loop : tie.MeasureT-loop
 
 -- the node's polynomial is one of those lent
 inside : (c : tie.In-loop Inv-loop μ-loop) →
-    c .before .loop .place < c .before .before .before .before .before .before .before .before .before .args .order * c .before .before .before .before .before .before .before .before .before .args .order
-inside c = rw (c .before .loop .inv .2) (digits-lt (c .loop-test .taken) (c .before .before .before .before .before .before .before .before .before .pre .1))
+    c .before .loop .place < c .before .before .before .before .before .before .before .before .before .args .order * c .before .before
+    .before .before .before .before .before .before .before .args .order
+inside c = rw (c .before .loop .inv .2) (digits-lt (c .loop-test .taken)
+    (c .before .before .before .before .before .before .before .before .before .pre .1))
 
 fill-with-requires : tie.Need-fill-with-requires Inv-loop μ-loop
 fill-with-requires c κs = c .before .before .before .before .pre .3
@@ -33,8 +35,15 @@ fill-with-requires c κs = c .before .before .before .before .pre .3
 loop-holds : tie.Need-loop-holds Inv-loop μ-loop
 loop-holds c =
     let s = c .before .before .before .before .before .before .before in
-    let a = s .args in
-    (omega arith, sym (zero-mul _), rw (zero-mul, zero-add), refl, adding-none (a .at) (a .rows) (λ i. termOf (a .order) (a .rows) (a .polynomials .now) (a .node-polynomials .now) (a .node) i) (a .out .now) (s .pre .3) _ (c .before .before .fill-with .ensures))
+    let a = s .args in (
+      omega arith,
+      sym (zero-mul _),
+      rw (zero-mul, zero-add),
+      refl,
+      adding-none (a .at) (a .rows)
+          (λ i. termOf (a .order) (a .rows) (a .polynomials .now) (a .node-polynomials .now) (a .node) i) (a .out .now) (s .pre .3) _
+          (c .before .before .fill-with .ensures),
+    )
 
 mul-add-scaled : tie.Need-mul-add-scaled Inv-loop μ-loop
 mul-add-scaled c =
@@ -42,7 +51,8 @@ mul-add-scaled c =
     omega (arith, inside c, s .pre .2, s .good)
 
 shared-slice-read-add-scaled : tie.Need-shared-slice-read-add-scaled Inv-loop μ-loop
-shared-slice-read-add-scaled c = rw (c .before .before .before .before .before .before .before .before .before .before .pre .2) (inside (c .before))
+shared-slice-read-add-scaled c = rw (c .before .before .before .before .before .before .before .before .before .before .pre .2)
+    (inside (c .before))
 
 add-scaled-requires : tie.Need-add-scaled-requires Inv-loop μ-loop
 add-scaled-requires c κs =
@@ -55,13 +65,27 @@ add-from : tie.Need-add-from Inv-loop μ-loop
 add-from c =
     let l = c .before .before .before .before .before .before .loop in
     let s = c .before .before .before .before .before .before .before .before .before .before .before .before .before .before in
-    omega (arith, column-fits (l .k) (s .args .order) (s .args .rows) (l .from) (c .before .before .before .before .before .loop-test .taken) (l .inv .1), s .pre .0, s .good)
+    omega (
+      arith,
+      column-fits (l .k) (s .args .order) (s .args .rows) (l .from)
+          (c .before .before .before .before .before .loop-test .taken) (l .inv .1),
+      s .pre .0,
+      s .good,
+    )
 
 add-place : tie.Need-add-place Inv-loop μ-loop
 add-place c =
     let l = c .before .before .before .before .before .before .loop in
     let s = c .before .before .before .before .before .before .before .before .before .before .before .before .before .before in
-    omega (arith, column-fits (l .k) (s .args .order) (s .args .order) (l .k * s .args .order) (c .before .before .before .before .before .loop-test .taken) refl, l .inv .2, s .pre .1, s .pre .2, s .good)
+    omega (
+      arith,
+      column-fits (l .k) (s .args .order) (s .args .order) (l .k * s .args .order)
+          (c .before .before .before .before .before .loop-test .taken) refl,
+      l .inv .2,
+      s .pre .1,
+      s .pre .2,
+      s .good,
+    )
 
 add-k : tie.Need-add-k Inv-loop μ-loop
 add-k c = search needs
@@ -81,7 +105,8 @@ loop-again c =
       omega (arith, next-column (l .k) (a .rows), l .inv .1),
       omega (arith, next-column (l .k) (a .order), l .inv .2),
       call .kept .1 .1 .1 .1 .1 .0 ∙ l .inv .3,
-      call .ensures ∙ adding-next (a .at) (a .rows) (λ i. termOf (a .order) (a .rows) (a .polynomials .now) (a .node-polynomials .now) (a .node) i) _ fits (l .out) (l .k) _ (l .inv .4) (λ i b. rw (l .inv .1, l .inv .2)),
+      call .ensures ∙ adding-next (a .at) (a .rows) (λ i. termOf (a .order) (a .rows) (a .polynomials .now) (a .node-polynomials .now)
+          (a .node) i) _ fits (l .out) (l .k) _ (l .inv .4) (λ i b. rw (l .inv .1, l .inv .2)),
     )
 
 same-length : tie.Need-same-length Inv-loop μ-loop
@@ -93,7 +118,8 @@ returns c =
     let s = c .before .before .before .before .before .before .before .before .before in
     let a = s .args in
     let all : l .k ≡ a .order = omega (arith, l .inv .0) in
-    adding-all (a .at) (a .rows) (λ i. termOf (a .order) (a .rows) (a .polynomials .now) (a .node-polynomials .now) (a .node) i) (a .out .now) (s .pre .3) _ (l .out) (a .order) (c .before .before .before .before .fill-with .ensures) (rw all at (l .inv .4))
+    adding-all (a .at) (a .rows) (λ i. termOf (a .order) (a .rows) (a .polynomials .now) (a .node-polynomials .now) (a .node) i)
+    (a .out .now) (s .pre .3) _ (l .out) (a .order) (c .before .before .before .before .fill-with .ensures) (rw all at (l .inv .4))
 
 pub sum-column-spec : {M : Type 1} → statement M
 sum-column-spec =

@@ -12,7 +12,8 @@ use Rattle.axes.proofs.factors.sum_columns.Statement.{statement}
 use Rattle.axes.proofs.factors.sum_columns.Tie as tie
 
 abbrev Inv-loop : tie.InvT-loop
-Inv-loop order rows polynomials node-polynomials at out₀ node₀ to₀ out node to = Stepping at order rows (cell rows (sumOf order rows polynomials node-polynomials)) out₀ out node to
+Inv-loop order rows polynomials node-polynomials at out₀ node₀ to₀ out node to = Stepping at order rows
+    (cell rows (sumOf order rows polynomials node-polynomials)) out₀ out node to
 
 abbrev μ-loop : tie.MeasureT-loop
 μ-loop order rows polynomials node-polynomials at out₀ node₀ to₀ out node to = order - node
@@ -23,17 +24,27 @@ room : (c : tie.In-loop Inv-loop μ-loop) →
 room c =
     let s = c .before .before .before .before .before in
     let a = s .args in
-    let fits = stepping-fits (a .at) (a .order) (a .rows) (cell (a .rows) (sumOf (a .order) (a .rows) (a .polynomials .now) (a .node-polynomials .now))) _ _ _ _ (c .before .loop .inv) (c .loop-test .taken) in
+    let fits = stepping-fits (a .at) (a .order) (a .rows) (cell (a .rows)
+    (sumOf (a .order) (a .rows) (a .polynomials .now) (a .node-polynomials .now))) _ _ _ _ (c .before .loop .inv)
+    (c .loop-test .taken) in
     omega (arith, fits, c .before .loop .inv .long, s .pre .2)
 
 loop-holds : tie.Need-loop-holds Inv-loop μ-loop
-loop-holds c = let a = c .before .before .before .args in stepping-none (a .at) (a .order) (a .rows) (cell (a .rows) (sumOf (a .order) (a .rows) (a .polynomials .now) (a .node-polynomials .now))) _
+loop-holds c = let a = c .before .before .before .args in stepping-none (a .at) (a .order) (a .rows)
+    (cell (a .rows) (sumOf (a .order) (a .rows) (a .polynomials .now) (a .node-polynomials .now))) _
 
 sum-column-requires : tie.Need-sum-column-requires Inv-loop μ-loop
-sum-column-requires c κs = let s = c .before .before .before .before .before .before in (s .pre .0, c .before .loop-test .taken, s .pre .1, room (c .before))
+sum-column-requires c κs = let s = c .before .before .before .before .before .before in
+    (s .pre .0, c .before .loop-test .taken, s .pre .1, room (c .before))
 
 add-to : tie.Need-add-to Inv-loop μ-loop
-add-to c = omega (arith, room (c .before .before .before .before), c .before .before .before .before .before .loop .inv .long, c .before .before .before .before .before .before .before .before .before .good)
+add-to c = omega (
+  arith,
+  room (c .before .before .before .before),
+  c .before .before .before .before .before .loop .inv .long,
+  c .before
+      .before .before .before .before .before .before .before .before .good,
+)
 
 add-node : tie.Need-add-node Inv-loop μ-loop
 add-node c = search needs
@@ -46,8 +57,10 @@ loop-again c =
     let s = c .before .before .before .before .before .before .before .before .before in
     let a = s .args in
     let l = c .before .before .before .before .before .loop in
-    stepping-more (a .at) (a .order) (a .rows) (cell (a .rows) (sumOf (a .order) (a .rows) (a .polynomials .now) (a .node-polynomials .now))) _ _ _ (l .node) _ _ (l .inv) (c .before .before .before .before .loop-test .taken) (s .pre .2)
-    (λ i b. sym (cell-at (a .rows) (sumOf (a .order) (a .rows) (a .polynomials .now) (a .node-polynomials .now)) i (l .node) b)) (c .before .before .sum-column .ensures)
+    stepping-more (a .at) (a .order) (a .rows) (cell (a .rows) (sumOf (a .order) (a .rows) (a .polynomials .now)
+    (a .node-polynomials .now))) _ _ _ (l .node) _ _ (l .inv) (c .before .before .before .before .loop-test .taken) (s .pre .2)
+    (λ i b. sym (cell-at (a .rows) (sumOf (a .order) (a .rows) (a .polynomials .now) (a .node-polynomials .now)) i (l .node) b))
+    (c .before .before .sum-column .ensures)
 
 same-length : tie.Need-same-length Inv-loop μ-loop
 same-length c = c .before .loop .inv .long
@@ -55,7 +68,8 @@ same-length c = c .before .loop .inv .long
 returns : tie.Need-returns Inv-loop μ-loop
 returns c =
     let a = c .before .before .before .before .before .args in
-    stepping-done (a .at) (a .order) (a .rows) (cell (a .rows) (sumOf (a .order) (a .rows) (a .polynomials .now) (a .node-polynomials .now))) _ _ _ _ (c .before .loop .inv) (c .loop-test .left)
+    stepping-done (a .at) (a .order) (a .rows) (cell (a .rows) (sumOf (a .order) (a .rows) (a .polynomials .now)
+    (a .node-polynomials .now))) _ _ _ _ (c .before .loop .inv) (c .loop-test .left)
 
 pub sum-columns-spec : {M : Type 1} → statement M
 sum-columns-spec =

@@ -28,8 +28,13 @@ fill-with-requires-3 c κs = search needs
 next-columns-requires : tie.Need-next-columns-requires
 next-columns-requires c κs =
     let s = c .before .before .before .before .before .before .before in
-    let a = s .args in
-    (s .pre .0, two-before (a .j) (a .rows) (a .at) (s .pre .1) (c .before .before .before .if1 .left) (c .before .before .if2 .left), s .pre .2, s .pre .3)
+    let a = s .args in (
+      s .pre .0,
+      two-before (a .j) (a .rows) (a .at) (s .pre .1) (c .before .before .before .if1 .left)
+          (c .before .before .if2 .left),
+      s .pre .2,
+      s .pre .3,
+    )
 
 same-length : tie.Need-same-length
 same-length c = search needs
@@ -41,7 +46,8 @@ returns : tie.Need-returns
 returns c =
     let a = c .before .before .before .before .before .before .before .before .before .before .before .before .args in
     let here = c .before .before .before .before .before .before .before .before .if1 .taken in (
-      c .before .before .before .before .before .before .fill-with .ensures ∙ in-place (a .at) (a .rows) (a .tn .now) _ _ (is-first _ _ _ (a .j) here),
+      c .before .before .before .before .before .before .fill-with .ensures
+          ∙ in-place (a .at) (a .rows) (a .tn .now) _ _ (is-first _ _ _ (a .j) here),
       c .before .before .fill-with2 .ensures ∙ in-place (a .at) (a .rows) (a .dtn .now) _ _ (is-first _ _ _ (a .j) here),
     )
 
@@ -55,7 +61,8 @@ returns-2 : tie.Need-returns-2
 returns-2 c =
     let a = c .before .before .before .before .before .before .before .before .before .before .before .before .before .args in
     let here = c .before .before .before .before .before .before .before .before .if2 .taken in (
-      c .before .before .before .before .before .before .copy-column .ensures ∙ in-place (a .at) (a .rows) (a .tn .now) _ _ (is-second _ _ _ (a .j) here),
+      c .before .before .before .before .before .before .copy-column .ensures
+          ∙ in-place (a .at) (a .rows) (a .tn .now) _ _ (is-second _ _ _ (a .j) here),
       c .before .before .fill-with3 .ensures ∙ in-place (a .at) (a .rows) (a .dtn .now) _ _ (is-second _ _ _ (a .j) here),
     )
 

@@ -1,4 +1,5 @@
--- `chebyshev::polynomials::evaluate_chebyshev_polynomials` meets its contract: refused, or filled with or without derivatives. Assumes nothing.
+-- `chebyshev::polynomials::evaluate_chebyshev_polynomials` meets its contract: refused, or filled with or without derivatives. Assumes
+-- nothing.
 use mathlib.Core.Path.{sym, ap, _∙_}
 use mathlib.Core.Bool.{Bool, cond}
 use mathlib.Core.List.{[]}
@@ -49,7 +50,9 @@ returns-2 c =
     let a = e .before .before .before .before .before .args in
     polynomials-done (a .order) (a .rows) (a .with-derivatives) (a .points .now) (a .tn .now) (a .dtn .now) _
     (e .before .polynomials-number .ensures) _ _ (e .if1 .left) (c .before .before .before .before .fill-both .ensures .0)
-    (c .before .before .before .before .fill-both .ensures .1 ∙ ap (λ (t : Bool). cond t (atPoints T′ (a .order) (a .rows) (a .points .now)) []) (sym (c .before .before .before .before .before .before .before .if2 .taken)))
+    (c .before .before .before .before .fill-both .ensures .1 ∙ ap (λ (t : Bool). cond t
+    (atPoints T′ (a .order) (a .rows) (a .points .now)) []) (sym (c .before .before .before .before .before .before .before .if2
+    .taken)))
 
 same-length-3 : tie.Need-same-length-3
 same-length-3 c = search needs

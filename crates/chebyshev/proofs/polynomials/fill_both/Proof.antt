@@ -1,4 +1,5 @@
--- `chebyshev::polynomials::fill_both` meets its contract. The loop keeps: the columns before j are filled in both buffers, and the rest is as it was. Assumes nothing.
+-- `chebyshev::polynomials::fill_both` meets its contract. The loop keeps: the columns before j are filled in both buffers, and the rest
+-- is as it was. Assumes nothing.
 use mathlib.Core.Path.{_≡_, refl, sym, _∙_}
 use Prim.Native.Nat.{_+_, _-_, _*_, _≤_}
 use native.Mathlib.Nat.{zero-mul}
@@ -17,7 +18,8 @@ use Rattle.chebyshev.proofs.polynomials.fill_both.Tie as tie
 abbrev Inv-loop : tie.InvT-loop
 Inv-loop order rows points tn₀ dtn₀ j₀ at₀ tn dtn j at =
     (j ≤ order) × (at ≡ j * rows) × (length tn ≡ length tn₀) × (length dtn ≡ length dtn₀) ×
-    (tn ≡ stretch 0 at (cell rows (λ i k. T k (getD points i nan))) tn₀) × (dtn ≡ stretch 0 at (cell rows (λ i k. T′ k (getD points i nan))) dtn₀)
+    (tn ≡ stretch 0 at (cell rows (λ i k. T k (getD points i nan))) tn₀)
+    × (dtn ≡ stretch 0 at (cell rows (λ i k. T′ k (getD points i nan))) dtn₀)
 
 abbrev μ-loop : tie.MeasureT-loop
 μ-loop order rows points tn₀ dtn₀ j₀ at₀ tn dtn j at = order - j
@@ -25,7 +27,8 @@ abbrev μ-loop : tie.MeasureT-loop
 -- the column has its place
 room : (t : tie.In-loop Inv-loop μ-loop) →
     let a = t .before .before .before .before .before .args in t .before .loop .at + a .rows ≤ a .order * a .rows
-room t = let a = t .before .before .before .before .before .args in column-fits (t .before .loop .j) (a .order) (a .rows) (t .before .loop .at) (t .loop-test .taken) (t .before .loop .inv .1)
+room t = let a = t .before .before .before .before .before .args in column-fits (t .before .loop .j) (a .order) (a .rows)
+    (t .before .loop .at) (t .loop-test .taken) (t .before .loop .inv .1)
 
 loop-holds : tie.Need-loop-holds Inv-loop μ-loop
 loop-holds c = (omega arith, sym (zero-mul _), refl, refl, refl, refl)
@@ -38,7 +41,8 @@ both-columns-requires c κs =
     (s .pre .0, l .inv .1, rw (l .inv .2, s .pre .1) (room t), rw (l .inv .3, s .pre .2) (room t))
 
 add-at : tie.Need-add-at Inv-loop μ-loop
-add-at c = let t = c .before .before .before .before .before .before .before in omega (arith, room t, t .before .before .before .before .before .pre .1, t .before .before .before .before .before .good)
+add-at c = let t = c .before .before .before .before .before .before .before in omega
+    (arith, room t, t .before .before .before .before .before .pre .1, t .before .before .before .before .before .good)
 
 add-j : tie.Need-add-j Inv-loop μ-loop
 add-j c = search needs
@@ -57,8 +61,10 @@ loop-again c =
       omega (arith, next-column (l .j) (a .rows), l .inv .1),
       call .kept .1 .1 .1 .1 .0 ∙ l .inv .2,
       call .kept .1 .1 .1 .1 .1 .0 ∙ l .inv .3,
-      call .ensures .0 ∙ values-filled (a .rows) (a .points .now) (a .tn .now) (l .tn) (l .j) (l .at) (l .inv .1) (rw (s .pre .1) (room t)) (l .inv .4),
-      call .ensures .1 ∙ slopes-filled (a .rows) (a .points .now) (a .tn .now) (l .tn) (l .j) (l .at) (l .inv .1) (rw (s .pre .1) (room t)) (l .inv .4)
+      call .ensures .0 ∙ values-filled (a .rows) (a .points .now) (a .tn .now) (l .tn) (l .j) (l .at) (l .inv .1)
+          (rw (s .pre .1) (room t)) (l .inv .4),
+      call .ensures .1 ∙ slopes-filled (a .rows) (a .points .now) (a .tn .now) (l .tn) (l .j) (l .at) (l .inv .1)
+          (rw (s .pre .1) (room t)) (l .inv .4)
           (a .dtn .now) (l .dtn) (rw (s .pre .2) (room t)) (l .inv .5),
     )
 

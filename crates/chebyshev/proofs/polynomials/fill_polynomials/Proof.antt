@@ -1,4 +1,5 @@
--- `chebyshev::polynomials::fill_polynomials` meets its contract. The loop keeps: the columns before j are filled, and the rest is as it was. Assumes nothing.
+-- `chebyshev::polynomials::fill_polynomials` meets its contract. The loop keeps: the columns before j are filled, and the rest is as it
+-- was. Assumes nothing.
 use borrow.Author.Needs.{needs}
 use mathlib.Core.Path.{_≡_, refl, sym, _∙_}
 use Prim.Native.Nat.{_-_, _*_, _≤_}
@@ -67,7 +68,8 @@ returns c =
     let l = c .before .loop in
     let s = c .before .before .before .before in
     let all : l .j ≡ s .args .order = omega arith in
-    l .inv .3 ∙ columns-all (s .args .rows) (s .args .points .now) T (s .args .order) (l .at) (s .args .tn .now) (s .pre .1) (rw all at (l .inv .1))
+    l .inv .3 ∙ columns-all (s .args .rows) (s .args .points .now) T (s .args .order) (l .at) (s .args .tn .now) (s .pre .1)
+    (rw all at (l .inv .1))
 
 pub fill-polynomials-spec : {M : Type 1} → statement M
 fill-polynomials-spec =

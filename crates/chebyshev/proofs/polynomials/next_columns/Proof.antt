@@ -1,4 +1,5 @@
--- `chebyshev::polynomials::next_columns` meets its contract. The loop keeps `Filling` of both buffers: i rows hold the next values, and the columns before are as they were. Assumes nothing.
+-- `chebyshev::polynomials::next_columns` meets its contract. The loop keeps `Filling` of both buffers: i rows hold the next values, and
+-- the columns before are as they were. Assumes nothing.
 use mathlib.Core.Path.{_≡_, refl}
 use Prim.Native.Nat.{_+_, _-_}
 use native.Mathlib.Omega.{arith}
@@ -11,7 +12,8 @@ use Rattle.chebyshev.proofs.polynomials.next_columns.Statement.{stateme
 use Rattle.chebyshev.proofs.polynomials.next_columns.Tie as tie
 
 abbrev Inv-loop : tie.InvT-loop
-Inv-loop rows points at tn₀ dtn₀ before last i₀ tn dtn i = Filling at rows (laterT rows points tn₀ at) tn₀ tn i × Filling at rows (laterT′ rows points tn₀ dtn₀ at) dtn₀ dtn i
+Inv-loop rows points at tn₀ dtn₀ before last i₀ tn dtn i = Filling at rows (laterT rows points tn₀ at) tn₀ tn i
+    × Filling at rows (laterT′ rows points tn₀ dtn₀ at) dtn₀ dtn i
 
 abbrev μ-loop : tie.MeasureT-loop
 μ-loop rows points at tn₀ dtn₀ before last i₀ tn dtn i = rows - i
@@ -124,8 +126,10 @@ same-length-2 c = search needs
 returns : tie.Need-returns Inv-loop μ-loop
 returns c =
     let a = c .before .before .args in (
-      filling-done (a .at) (a .rows) (laterT (a .rows) (a .points .now) (a .tn .now) (a .at)) _ _ _ (c .before .loop .inv .0) (c .loop-test .left),
-      filling-done (a .at) (a .rows) (laterT′ (a .rows) (a .points .now) (a .tn .now) (a .dtn .now) (a .at)) _ _ _ (c .before .loop .inv .1) (c .loop-test .left),
+      filling-done (a .at) (a .rows) (laterT (a .rows) (a .points .now) (a .tn .now) (a .at)) _ _ _ (c .before .loop .inv .0)
+          (c .loop-test .left),
+      filling-done (a .at) (a .rows) (laterT′ (a .rows) (a .points .now) (a .tn .now) (a .dtn .now) (a .at)) _ _ _
+          (c .before .loop .inv .1) (c .loop-test .left),
     )
 
 pub next-columns-spec : {M : Type 1} → statement M

@@ -45,11 +45,13 @@ same-length-6 c = search needs
 
 returns-2 : tie.Need-returns-2
 returns-2 c =
-    let e = c .before .before .before .before .before .before .before .before .before .before .before .before .before .before .before .before in
+    let e = c .before .before .before .before .before .before .before .before .before .before .before .before .before .before .before
+    .before in
     let a = e .before .before .before .before .before .before .before .before .before .before .args in
     coefficients-done (a .cell .dimension) (a .cell .order) (a .cell .rows) (a .cell .side) (a .with-gradients) (a .centre .now)
     (a .node-polynomials .now) (a .points .now) (a .values .now) (a .gradients .now) (a .factors .now) (a .slopes .now) _
-    (e .before .coefficients-number .ensures) _ (e .if1 .left) (c .before .before .before .before .before .before .before .before .before .before .fill-coefficients .ensures)
+    (e .before .coefficients-number .ensures) _ (e .if1 .left) (c .before .before .before .before .before .before .before .before .before
+    .before .fill-coefficients .ensures)
 
 pub get-approximation-coefficients-spec : {M : Type 1} → statement M
 get-approximation-coefficients-spec =

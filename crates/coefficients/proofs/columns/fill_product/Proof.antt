@@ -13,20 +13,32 @@ use Rattle.coefficients.proofs.columns.fill_product.Tie as tie
 rooms : (c : tie.After-place-of3) →
     let a = c .before .before .before .before .before .before .before .args in
     (c .before .before .place-of .result + a .cell .rows ≤ length (a .first .now)) ×
-    (c .before .place-of2 .result + a .cell .rows ≤ length (a .second .now)) × (c .place-of3 .result + a .cell .rows ≤ length (a .third .now))
+    (c .before .place-of2 .result + a .cell .rows ≤ length (a .second .now))
+    × (c .place-of3 .result + a .cell .rows ≤ length (a .third .now))
 rooms c =
     let s = c .before .before .before .before .before .before .before in
-    let room = source-room _ _ _ _ _ _ _ _ _ (s .pre .0) (s .args .node) in
-    (rw (c .before .before .place-of .ensures) (room .0), rw (c .before .place-of2 .ensures) (room .1), rw (c .place-of3 .ensures) (room .2))
+    let room = source-room _ _ _ _ _ _ _ _ _ (s .pre .0) (s .args .node) in (
+      rw (c .before .before .place-of .ensures) (room .0),
+      rw (c .before .place-of2 .ensures) (room .1),
+      rw (c .place-of3 .ensures)
+          (room .2),
+    )
 
 place-of-requires : tie.Need-place-of-requires
-place-of-requires c κs = let s = c .before .before .before .before in (s .pre .0 .shape, s .pre .0 .few, source-axes _ _ _ _ _ _ _ _ _ (s .pre .0) .0)
+place-of-requires c κs = let s = c .before .before .before .before in (
+  s .pre .0 .shape,
+  s .pre .0 .few,
+  source-axes _ _ _ _ _ _ _ _ _
+      (s .pre .0) .0,
+)
 
 place-of-requires-2 : tie.Need-place-of-requires-2
-place-of-requires-2 c κs = let s = c .before .before .before .before .before in (s .pre .0 .shape, s .pre .0 .few, source-axes _ _ _ _ _ _ _ _ _ (s .pre .0) .1)
+place-of-requires-2 c κs = let s = c .before .before .before .before .before in
+    (s .pre .0 .shape, s .pre .0 .few, source-axes _ _ _ _ _ _ _ _ _ (s .pre .0) .1)
 
 place-of-requires-3 : tie.Need-place-of-requires-3
-place-of-requires-3 c κs = let s = c .before .before .before .before .before .before in (s .pre .0 .shape, s .pre .0 .few, source-axes _ _ _ _ _ _ _ _ _ (s .pre .0) .2)
+place-of-requires-3 c κs = let s = c .before .before .before .before .before .before in
+    (s .pre .0 .shape, s .pre .0 .few, source-axes _ _ _ _ _ _ _ _ _ (s .pre .0) .2)
 
 add-a-end : tie.Need-add-a-end
 add-a-end c = omega (arith, rooms c, c .before .before .before .before .before .before .before .good)
@@ -94,7 +106,8 @@ returns c =
     let d = c .before .before .before .before .before .before .before in
     let s = c .before .before .before .before .before .before .before .before .before .before .before .before .before .before in
     let a = s .args in
-    c .before .before .multiply .ensures ∙ product-lent (a .cell .dimension) (a .cell .order) (a .cell .rows) (a .node) _ _ _ (a .first .now) (a .second .now) (a .third .now) _ _ _
+    c .before .before .multiply .ensures ∙ product-lent (a .cell .dimension) (a .cell .order) (a .cell .rows) (a .node) _ _ _
+    (a .first .now) (a .second .now) (a .third .now) _ _ _
     (d .before .before .place-of .ensures) (d .before .place-of2 .ensures) (d .place-of3 .ensures)
 
 pub fill-product-spec : {M : Type 1} → statement M

@@ -1,4 +1,5 @@
--- `coefficients::columns::fill_products` meets its contract. The loop keeps `Stepping`: the columns of the nodes before `node` are filled. Assumes nothing.
+-- `coefficients::columns::fill_products` meets its contract. The loop keeps `Stepping`: the columns of the nodes before `node` are
+-- filled. Assumes nothing.
 use mathlib.Core.Path.{_≡_, refl, sym, ap, _∙_}
 use mathlib.Core.List.{List}
 use Prim.Native.Nat.{ℕ, _+_, _-_, _*_, _^_, _≤_}
@@ -37,13 +38,21 @@ room c =
     let l = c .before .loop in
     let long : length (a .out .now) ≡ c .before .before .power .result * a .cell .rows =
     s .pre .1 ∙ ap (λ (n : ℕ). n * a .cell .rows) (sym (c .before .before .power .ensures)) in
-    omega (arith, stepping-fits 0 _ (a .cell .rows) (columnsOf (a .cell .dimension) (a .cell .order) (a .cell .rows) (a .axes .first) (a .axes .second) (a .axes .third) (a .first .now) (a .second .now) (a .third .now)) _ _ _ _ (l .inv) (c .loop-test .taken), l .inv .long)
+    omega (
+      arith,
+      stepping-fits 0 _ (a .cell .rows) (columnsOf (a .cell .dimension) (a .cell .order) (a .cell .rows) (a .axes .first)
+          (a .axes .second) (a .axes .third) (a .first .now) (a .second .now) (a .third .now)) _ _ _ _ (l .inv)
+          (c .loop-test .taken),
+      l .inv .long,
+    )
 
 power-requires : tie.Need-power-requires Inv-loop μ-loop
 power-requires c κs = let s = c .before .before .before .before in (s .pre .0 .shape .order-most, s .pre .0 .shape .dimension-most)
 
 loop-holds : tie.Need-loop-holds Inv-loop μ-loop
-loop-holds c = let a = c .before .before .before .before .before .args in stepping-none 0 (c .power .result) (a .cell .rows) (columnsOf (a .cell .dimension) (a .cell .order) (a .cell .rows) (a .axes .first) (a .axes .second) (a .axes .third) (a .first .now) (a .second .now) (a .third .now)) (a .out .now)
+loop-holds c = let a = c .before .before .before .before .before .args in stepping-none 0 (c .power .result) (a .cell .rows)
+    (columnsOf (a .cell .dimension) (a .cell .order) (a .cell .rows) (a .axes .first) (a .axes .second) (a .axes .third) (a .first .now)
+    (a .second .now) (a .third .now)) (a .out .now)
 
 add-end : tie.Need-add-end Inv-loop μ-loop
 add-end c = omega (arith, room c, c .before .loop .inv .long, c .before .before .before .before .before .before .before .good)
@@ -61,7 +70,8 @@ part-fill-product-end : tie.Need-part-fill-product-end Inv-loop μ-loop
 part-fill-product-end c = omega (arith, room c)
 
 fill-product-requires : tie.Need-fill-product-requires Inv-loop μ-loop
-fill-product-requires c κs = let s = c .before .before .before .before .before .before .before .before in (s .pre .0, part-length _ _ (s .args .cell .rows) _ refl (room (c .before)))
+fill-product-requires c κs = let s = c .before .before .before .before .before .before .before .before in
+    (s .pre .0, part-length _ _ (s .args .cell .rows) _ refl (room (c .before)))
 
 add-node : tie.Need-add-node Inv-loop μ-loop
 add-node c = search needs
@@ -76,7 +86,8 @@ loop-again c =
     let a = s .args in
     let l = t .before .loop in
     column-lent (a .cell .rows) (t .before .before .power .result)
-    (productOf (a .cell .dimension) (a .cell .order) (a .cell .rows) (three (a .axes .first) (a .axes .second) (a .axes .third)) (three (a .first .now) (a .second .now) (a .third .now)))
+    (productOf (a .cell .dimension) (a .cell .order) (a .cell .rows) (three (a .axes .first) (a .axes .second) (a .axes .third))
+    (three (a .first .now) (a .second .now) (a .third .now)))
     (a .out .now) (l .out) _ (l .node) (l .at) _
     (s .pre .1 ∙ ap (λ (n : ℕ). n * a .cell .rows) (sym (t .before .before .power .ensures))) (l .inv) (t .loop-test .taken)
     (c .before .before .fill-product .ensures) (λ i _. refl)
@@ -88,8 +99,11 @@ returns : tie.Need-returns Inv-loop μ-loop
 returns c =
     let s = c .before .before .before .before .before .before .before in
     let a = s .args in
-    let done = stepping-done 0 _ (a .cell .rows) (columnsOf (a .cell .dimension) (a .cell .order) (a .cell .rows) (a .axes .first) (a .axes .second) (a .axes .third) (a .first .now) (a .second .now) (a .third .now)) _ _ _ _ (c .before .loop .inv) (c .loop-test .left) in
-    rw (c .before .before .power .ensures) at done ∙ columns-filled (a .cell .rows) _ (a .cell .order ^ a .cell .dimension) (a .out .now) (s .pre .1)
+    let done = stepping-done 0 _ (a .cell .rows) (columnsOf (a .cell .dimension) (a .cell .order) (a .cell .rows) (a .axes .first)
+    (a .axes .second) (a .axes .third) (a .first .now) (a .second .now) (a .third .now)) _ _ _ _ (c .before .loop .inv)
+    (c .loop-test .left) in
+    rw (c .before .before .power .ensures) at done ∙ columns-filled (a .cell .rows) _ (a .cell .order ^ a .cell .dimension) (a .out .now)
+    (s .pre .1)
 
 pub fill-products-spec : {M : Type 1} → statement M
 fill-products-spec =

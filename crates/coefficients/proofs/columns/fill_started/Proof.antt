@@ -28,8 +28,10 @@ returns : tie.Need-returns
 returns c =
     let s = c .before .before .before .before .before .before .before .before .before in
     let a = s .args in
-    c .before .before .fill-products .ensures ∙ started-columns (a .cell .dimension) (a .cell .order) (a .cell .rows) (a .axis) _ _ (a .starts .now) (a .factors .now)
-    (s .pre .0) (s .pre .2) (c .before .before .before .before .before .second-axis .ensures) (c .before .before .before .before .third-axis .ensures) (a .cell .order ^ a .cell .dimension)
+    c .before .before .fill-products .ensures ∙ started-columns (a .cell .dimension) (a .cell .order) (a .cell .rows) (a .axis) _ _
+    (a .starts .now) (a .factors .now)
+    (s .pre .0) (s .pre .2) (c .before .before .before .before .before .second-axis .ensures)
+    (c .before .before .before .before .third-axis .ensures) (a .cell .order ^ a .cell .dimension)
 
 pub fill-started-spec : {M : Type 1} → statement M
 fill-started-spec =

@@ -24,7 +24,8 @@ returns c =
     let s = c .before .before .before .before .before .before .before .before .before in
     let a = s .args in
     c .before .before .copy-column .ensures ∙ fill-all (a .rows) _ (a .column .now) (s .pre .5)
-    ∙ tabulate-cong (a .rows) _ _ (λ i _. product-one (a .dimension) (a .first .now) (a .second .now) (a .third .now) (c .before .before .before .before .if1 .taken) i)
+    ∙ tabulate-cong (a .rows) _ _ (λ i _. product-one (a .dimension) (a .first .now) (a .second .now) (a .third .now)
+    (c .before .before .before .before .if1 .taken) i)
 
 same-length-2 : tie.Need-same-length-2
 same-length-2 c = search needs
@@ -33,7 +34,8 @@ returns-2 : tie.Need-returns-2
 returns-2 c =
     let a = c .before .before .before .before .before .before .before .before .before .before .args in
     c .before .before .multiply-two .ensures
-    ∙ tabulate-cong (a .rows) _ _ (λ i _. product-two (a .dimension) (a .first .now) (a .second .now) (a .third .now) (c .before .before .before .before .if2 .taken) i)
+    ∙ tabulate-cong (a .rows) _ _ (λ i _. product-two (a .dimension) (a .first .now) (a .second .now) (a .third .now)
+    (c .before .before .before .before .if2 .taken) i)
 
 same-length-3 : tie.Need-same-length-3
 same-length-3 c = search needs
@@ -42,7 +44,14 @@ returns-3 : tie.Need-returns-3
 returns-3 c =
     let s = c .before .before .before .before .before .before .before .before .before .before in
     let a = s .args in
-    let last : a .dimension ≡ 3 = omega (arith, s .pre .0, s .pre .1, c .before .before .before .before .before .if1 .left, c .before .before .before .before .if2 .left) in
+    let last : a .dimension ≡ 3 = omega (
+      arith,
+      s .pre .0,
+      s .pre .1,
+      c .before .before .before .before .before .if1 .left,
+      c .before
+          .before .before .before .if2 .left,
+    ) in
     c .before .before .multiply-three .ensures
     ∙ tabulate-cong (a .rows) _ _ (λ i _. product-three (a .dimension) (a .first .now) (a .second .now) (a .third .now) last i)
 

@@ -12,13 +12,15 @@ use Rattle.coefficients.proofs.columns.multiply_three.Statement.{statem
 use Rattle.coefficients.proofs.columns.multiply_three.Tie as tie
 
 abbrev Inv-loop : tie.InvT-loop
-Inv-loop rows first second third column₀ i₀ column i = Filling 0 rows (λ j. times (times (getD first j nan) (getD second j nan)) (getD third j nan)) column₀ column i
+Inv-loop rows first second third column₀ i₀ column i = Filling 0 rows (λ j. times (times (getD first j nan) (getD second j nan))
+    (getD third j nan)) column₀ column i
 
 abbrev μ-loop : tie.MeasureT-loop
 μ-loop rows first second third column₀ i₀ column i = rows - i
 
 loop-holds : tie.Need-loop-holds Inv-loop μ-loop
-loop-holds c = let a = c .args in filling-none 0 (a .rows) (λ j. times (times (getD (a .first .now) j nan) (getD (a .second .now) j nan)) (getD (a .third .now) j nan)) _
+loop-holds c = let a = c .args in filling-none 0 (a .rows) (λ j. times (times (getD (a .first .now) j nan) (getD (a .second .now) j nan))
+    (getD (a .third .now) j nan)) _
 
 mul-column : tie.Need-mul-column Inv-loop μ-loop
 mul-column c = search needs
@@ -54,7 +56,9 @@ loop-again : tie.Need-loop-again Inv-loop μ-loop
 loop-again c =
     let s = c .before .before .before .before .before in
     let a = s .args in
-    filling-more 0 (a .rows) (λ j. times (times (getD (a .first .now) j nan) (getD (a .second .now) j nan)) (getD (a .third .now) j nan)) _ _ _ _ nan _ (c .before .before .before .before .loop .inv) (c .before .before .before .loop-test .taken) (omega (arith, s .pre .3)) (sym (zero-add _)) refl
+    filling-more 0 (a .rows) (λ j. times (times (getD (a .first .now) j nan) (getD (a .second .now) j nan)) (getD (a .third .now) j nan))
+    _ _ _ _ nan _ (c .before .before .before .before .loop .inv) (c .before .before .before .loop-test .taken) (omega (arith, s .pre .3))
+    (sym (zero-add _)) refl
 
 same-length : tie.Need-same-length Inv-loop μ-loop
 same-length c = c .before .loop .inv .long
@@ -63,7 +67,9 @@ returns : tie.Need-returns Inv-loop μ-loop
 returns c =
     let s = c .before .before in
     let a = s .args in
-    filling-done 0 (a .rows) (λ j. times (times (getD (a .first .now) j nan) (getD (a .second .now) j nan)) (getD (a .third .now) j nan)) _ _ _ (c .before .loop .inv) (c .loop-test .left) ∙ fill-all (a .rows) (λ j. times (times (getD (a .first .now) j nan) (getD (a .second .now) j nan)) (getD (a .third .now) j nan)) _ (s .pre .3)
+    filling-done 0 (a .rows) (λ j. times (times (getD (a .first .now) j nan) (getD (a .second .now) j nan)) (getD (a .third .now) j nan))
+    _ _ _ (c .before .loop .inv) (c .loop-test .left) ∙ fill-all (a .rows)
+    (λ j. times (times (getD (a .first .now) j nan) (getD (a .second .now) j nan)) (getD (a .third .now) j nan)) _ (s .pre .3)
 
 pub multiply-three-spec : {M : Type 1} → statement M
 multiply-three-spec =

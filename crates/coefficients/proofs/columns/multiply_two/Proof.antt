@@ -48,7 +48,8 @@ loop-again : tie.Need-loop-again Inv-loop μ-loop
 loop-again c =
     let s = c .before .before .before .before in
     let a = s .args in
-    filling-more 0 (a .rows) (λ j. times (getD (a .first .now) j nan) (getD (a .second .now) j nan)) _ _ _ _ nan _ (c .before .before .before .loop .inv) (c .before .before .loop-test .taken) (omega (arith, s .pre .2)) (sym (zero-add _)) refl
+    filling-more 0 (a .rows) (λ j. times (getD (a .first .now) j nan) (getD (a .second .now) j nan)) _ _ _ _ nan _
+    (c .before .before .before .loop .inv) (c .before .before .loop-test .taken) (omega (arith, s .pre .2)) (sym (zero-add _)) refl
 
 same-length : tie.Need-same-length Inv-loop μ-loop
 same-length c = c .before .loop .inv .long
@@ -57,7 +58,8 @@ returns : tie.Need-returns Inv-loop μ-loop
 returns c =
     let s = c .before .before in
     let a = s .args in
-    filling-done 0 (a .rows) (λ j. times (getD (a .first .now) j nan) (getD (a .second .now) j nan)) _ _ _ (c .before .loop .inv) (c .loop-test .left) ∙ fill-all (a .rows) (λ j. times (getD (a .first .now) j nan) (getD (a .second .now) j nan)) _ (s .pre .2)
+    filling-done 0 (a .rows) (λ j. times (getD (a .first .now) j nan) (getD (a .second .now) j nan)) _ _ _ (c .before .loop .inv)
+    (c .loop-test .left) ∙ fill-all (a .rows) (λ j. times (getD (a .first .now) j nan) (getD (a .second .now) j nan)) _ (s .pre .2)
 
 pub multiply-two-spec : {M : Type 1} → statement M
 multiply-two-spec =

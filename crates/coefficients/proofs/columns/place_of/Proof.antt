@@ -12,12 +12,22 @@ fits : (c : tie.After-index-on) → c .before .args .axis * c .before .args .cel
 fits c =
     let s = c .before in
     let a = s .args in
-    let index : c .index-on .result < a .cell .order = rw (c .index-on .ensures) (digit-below (a .cell .order) (a .cell .dimension) (a .axis) (a .node) (s .pre .0 .order-least)) in
-    omega (arith, s .pre .0 .order-most, mul-le-mul {n₁ = a .axis} {m₁ = a .cell .order} {n₂ = 3} {m₂ = 16} (omega (arith, s .pre .0 .dimension-most, s .pre .2)) (s .pre .0 .order-most))
+    let index : c .index-on .result < a .cell .order = rw (c .index-on .ensures)
+    (digit-below (a .cell .order) (a .cell .dimension) (a .axis) (a .node) (s .pre .0 .order-least)) in
+    omega (
+      arith,
+      s .pre .0 .order-most,
+      mul-le-mul {n₁ = a .axis} {m₁ = a .cell .order} {n₂ = 3} {m₂ = 16}
+          (omega (arith, s .pre .0 .dimension-most, s .pre .2)) (s .pre .0 .order-most),
+    )
 
 mul-result : tie.Need-mul-result
 mul-result c =
-    omega (arith, mul-le-mul {n₁ = c .args .axis} {m₁ = c .args .cell .order} {n₂ = 3} {m₂ = 16} (omega (arith, c .pre .0 .dimension-most, c .pre .2)) (c .pre .0 .order-most))
+    omega (
+      arith,
+      mul-le-mul {n₁ = c .args .axis} {m₁ = c .args .cell .order} {n₂ = 3} {m₂ = 16}
+          (omega (arith, c .pre .0 .dimension-most, c .pre .2)) (c .pre .0 .order-most),
+    )
 
 index-on-requires : tie.Need-index-on-requires
 index-on-requires c κs = (c .pre .0, c .pre .2)
@@ -29,7 +39,11 @@ mul-result-2 : tie.Need-mul-result-2
 mul-result-2 c =
     let d = c .before in
     let a = d .before .args in
-    omega (arith, mul-le-mul {n₁ = a .axis * a .cell .order + d .index-on .result} {m₁ = a .cell .rows} {n₂ = 64} {m₂ = 4096} (fits d) (d .before .pre .1))
+    omega (
+      arith,
+      mul-le-mul {n₁ = a .axis * a .cell .order + d .index-on .result} {m₁ = a .cell .rows} {n₂ = 64} {m₂ = 4096} (fits d)
+          (d .before .pre .1),
+    )
 
 returns : tie.Need-returns
 returns c =

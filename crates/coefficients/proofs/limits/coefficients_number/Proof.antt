@@ -14,10 +14,12 @@ use Rattle.coefficients.proofs.limits.coefficients_number.Tie as tie
 -- WHAT HOLDS past each test
 
 shape : (c : tie.Else1) → let a = c .before .before .before .before .args in Shape (a .cell .dimension) (a .cell .order)
-shape c = let a = c .before .before .before .before .args in shape-taken (a .cell .dimension) (a .cell .order) (sym (c .before .shape-number .ensures) ∙ c .if1 .left)
+shape c = let a = c .before .before .before .before .args in shape-taken (a .cell .dimension) (a .cell .order)
+    (sym (c .before .shape-number .ensures) ∙ c .if1 .left)
 
 fit : (c : tie.Else3) →
-    let a = c .before .before .before .before .before .before .before .args in lengthsFit (a .cell .dimension) (a .cell .order) (a .cell .rows) (a .with-gradients) (a .lent) ≡ true
+    let a = c .before .before .before .before .before .before .before .args in lengthsFit (a .cell .dimension) (a .cell .order)
+    (a .cell .rows) (a .with-gradients) (a .lent) ≡ true
 fit c = sym (c .before .lengths-fit .ensures) ∙ of-not _ false (c .if3 .left)
 
 is-cell : (c : tie.Else4) → isCell (c .before .before .before .before .before .before .before .before .before .args .cell .side) ≡ true
@@ -44,7 +46,8 @@ lengths-fit-requires c κs = (shape (c .before), c .if2 .left)
 returns-3 : tie.Need-returns-3
 returns-3 c =
     let two = c .before .before in
-    number-length _ _ _ _ _ _ _ (shape (two .before)) (two .if2 .left) (sym (c .before .lengths-fit .ensures) ∙ of-not _ true (c .if3 .taken))
+    number-length _ _ _ _ _ _ _ (shape (two .before)) (two .if2 .left) (sym (c .before .lengths-fit .ensures)
+    ∙ of-not _ true (c .if3 .taken))
 
 is-cell-requires : tie.Need-is-cell-requires
 is-cell-requires c κs = search needs
@@ -53,7 +56,8 @@ returns-4 : tie.Need-returns-4
 returns-4 c =
     let three = c .before .before in
     let two = three .before .before in
-    number-cell _ _ _ _ _ _ _ (shape (two .before)) (two .if2 .left) (fit three) (sym (c .before .is-cell .ensures) ∙ of-not _ true (c .if4 .taken))
+    number-cell _ _ _ _ _ _ _ (shape (two .before)) (two .if2 .left) (fit three)
+    (sym (c .before .is-cell .ensures) ∙ of-not _ true (c .if4 .taken))
 
 all-finite-requires : tie.Need-all-finite-requires
 all-finite-requires c κs = search needs
@@ -63,7 +67,8 @@ returns-5 c =
     let four = c .before .before in
     let three = four .before .before in
     let two = three .before .before in
-    number-points _ _ _ _ _ _ _ (shape (two .before)) (two .if2 .left) (fit three) (is-cell four) (sym (c .before .all-finite .ensures) ∙ of-not _ true (c .if5 .taken))
+    number-points _ _ _ _ _ _ _ (shape (two .before)) (two .if2 .left) (fit three) (is-cell four)
+    (sym (c .before .all-finite .ensures) ∙ of-not _ true (c .if5 .taken))
 
 all-finite-requires-2 : tie.Need-all-finite-requires-2
 all-finite-requires-2 c κs = search needs

@@ -52,13 +52,16 @@ past-six c = c .before .before
 values-fit : (c : tie.Else4) →
     let a = c .before .before .before .before .before .before .before .before .before .args in a .lent .values ≡
     a .order ^ a .dimension * a .rows
-values-fit c = c .if4 .left ∙ ap (λ (n : ℕ). n * c .before .before .before .before .before .before .before .before .before .args .rows) (c .before .before .before .before .before .before .before .before .power .ensures)
+values-fit c = c .if4 .left ∙ ap (λ (n : ℕ). n * c .before .before .before .before .before .before .before .before .before .args .rows)
+    (c .before .before .before .before .before .before .before .before .power .ensures)
 
 gradients-fit : (c : tie.Else5) →
-    let a = c .before .before .before .before .before .before .before .before .before .before .before .before .args in a .lent .gradients ≡ sizeIf (a .with-gradients) (a .dimension * a .order ^ a .dimension * a .rows)
+    let a = c .before .before .before .before .before .before .before .before .before .before .before .before .args in a .lent .gradients
+    ≡ sizeIf (a .with-gradients) (a .dimension * a .order ^ a .dimension * a .rows)
 gradients-fit c =
     let a = c .before .before .before .before .before .before .before .before .before .before .before .before .args in
-    c .if5 .left ∙ c .before .before .size-if .ensures ∙ ap (λ (n : ℕ). sizeIf (a .with-gradients) (a .dimension * n * a .rows)) (c .before .before .before .before .before .before .before .before .before .before .before .power .ensures)
+    c .if5 .left ∙ c .before .before .size-if .ensures ∙ ap (λ (n : ℕ). sizeIf (a .with-gradients) (a .dimension * n * a .rows))
+    (c .before .before .before .before .before .before .before .before .before .before .before .power .ensures)
 
 -- THE TESTS AND THE RETURNS
 
@@ -80,7 +83,8 @@ unfolding lengthsFit
 returns-2 c = let e1 = c .before .before in rw (eq-eqb _ _ (e1 .if1 .left), ne-eqb _ _ (c .if2 .taken))
 
 mul-if3 : tie.Need-mul-if3
-mul-if3 c = let t = past-one (past-two c) in let a = t .before .args in omega (arith, small (a .order) (a .order) 16 16 (order-most t) (order-most t))
+mul-if3 c = let t = past-one (past-two c) in let a = t .before .args in omega
+    (arith, small (a .order) (a .order) 16 16 (order-most t) (order-most t))
 
 returns-3 : tie.Need-returns-3
 unfolding lengthsFit

@@ -1,4 +1,5 @@
--- `transfer::operators::fill_operators` meets its contract. The loop keeps: the columns before c are filled, and the rest is as it was. Assumes nothing.
+-- `transfer::operators::fill_operators` meets its contract. The loop keeps: the columns before c are filled, and the rest is as it was.
+-- Assumes nothing.
 use borrow.Author.Needs.{needs}
 use mathlib.Core.Path.{_≡_, refl, sym, ap, _∙_}
 use Prim.Native.Nat.{_+_, _-_, _*_, _≤_}
@@ -28,7 +29,8 @@ fits : (i : tie.In-loop Inv-loop μ-loop) →
 fits i =
     let l = i .before .loop in
     let s = i .before .before .before .before .before .before .before in
-    rw (l .inv .2, s .pre .3) (column-fits (l .c) (s .args .order + s .args .order) (s .args .order) (l .at) (i .loop-test .taken) (l .inv .1))
+    rw (l .inv .2, s .pre .3) (column-fits (l .c) (s .args .order + s .args .order) (s .args .order) (l .at) (i .loop-test .taken)
+    (l .inv .1))
 
 float-of-requires : tie.Need-float-of-requires Inv-loop μ-loop
 float-of-requires c κs = omega (arith, c .before .before .before .pre .0)
@@ -49,7 +51,12 @@ sum-column-requires : tie.Need-sum-column-requires Inv-loop μ-loop
 sum-column-requires c κs = (c .before .before .before .before .before .before .before .before .before .pre .2, fits (c .before .before))
 
 scale-column-requires : tie.Need-scale-column-requires Inv-loop μ-loop
-scale-column-requires c κs = omega (arith, fits (c .before .before .before .before .before .before), c .before .before .before .sum-column .kept)
+scale-column-requires c κs = omega (
+  arith,
+  fits (c .before .before .before .before .before .before),
+  c .before .before .before .sum-column
+      .kept,
+)
 
 add-at : tie.Need-add-at Inv-loop μ-loop
 add-at c =
@@ -58,8 +65,11 @@ add-at c =
 
 add-c : tie.Need-add-c Inv-loop μ-loop
 add-c c =
-    omega
-    (arith, c .before .before .before .before .before .before .before .before .before .before .before .before .before .before .before .before .pre .0)
+    omega (
+      arith,
+      c .before .before .before .before .before .before .before .before .before .before .before .before .before .before .before
+          .before .pre .0,
+    )
 
 loop-less : tie.Need-loop-less Inv-loop μ-loop
 loop-less c = search needs
@@ -79,7 +89,8 @@ loop-again c =
           (l .at) _ _ _ (l .inv .1)
           (rw (s .pre .3) (column-fits (l .c) (a .order + a .order) (a .order) (l .at) (i .loop-test .taken) (l .inv .1)))
           (c .before .before .before .before .before .before .before .before .child-node .ensures)
-          (ap (over two₆₄) (i .before .before .before .float-of .ensures)) (ap (over one₆₄) (i .before .before .float-of2 .ensures)) (l .inv .3) (summed .ensures)
+          (ap (over two₆₄) (i .before .before .before .float-of .ensures)) (ap (over one₆₄) (i .before .before .float-of2 .ensures))
+          (l .inv .3) (summed .ensures)
           (l .inv .2),
     )
 

@@ -52,13 +52,15 @@ returns-4 : tie.Need-returns-4
 returns-4 c =
     let a = c .before .before .before .before .before .args in
     let ok = sym (c .before .before .before .before .order-number .ensures) ∙ c .before .before .before .if1 .left in
-    operators-length (a .order) (a .nodes) (a .polynomials) (a .operators) ok (c .before .before .if2 .left) (c .before .if3 .left) (c .if4 .taken)
+    operators-length (a .order) (a .nodes) (a .polynomials) (a .operators) ok (c .before .before .if2 .left) (c .before .if3 .left)
+    (c .if4 .taken)
 
 returns-5 : tie.Need-returns-5
 returns-5 c =
     let a = c .before .before .before .before .before .args in
     let ok = sym (c .before .before .before .before .order-number .ensures) ∙ c .before .before .before .if1 .left in
-    operators-none (a .order) (a .nodes) (a .polynomials) (a .operators) ok (c .before .before .if2 .left) (c .before .if3 .left) (c .if4 .left)
+    operators-none (a .order) (a .nodes) (a .polynomials) (a .operators) ok (c .before .before .if2 .left) (c .before .if3 .left)
+    (c .if4 .left)
 
 pub operators-number-spec : {M : Type 1} → statement M
 operators-number-spec =

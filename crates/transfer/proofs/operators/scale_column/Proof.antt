@@ -10,7 +10,8 @@ use Rattle.transfer.proofs.operators.scale_column.Statement.{statement}
 use Rattle.transfer.proofs.operators.scale_column.Tie as tie
 
 abbrev Inv-loop : tie.InvT-loop
-Inv-loop rows factor offset at operators₀ i₀ operators i = Filling at rows (λ j. minus (times (getD operators₀ (at + j) nan) factor) offset) operators₀ operators i
+Inv-loop rows factor offset at operators₀ i₀ operators i = Filling at rows
+    (λ j. minus (times (getD operators₀ (at + j) nan) factor) offset) operators₀ operators i
 
 abbrev μ-loop : tie.MeasureT-loop
 μ-loop rows factor offset at operators₀ i₀ operators i = rows - i

@@ -1,4 +1,5 @@
--- `transfer::operators::sum_column` meets its contract. The loop keeps: each row has the sum of its first k terms, and t and next are T k and T (k + 1) at the child's node. Assumes nothing.
+-- `transfer::operators::sum_column` meets its contract. The loop keeps: each row has the sum of its first k terms, and t and next are T k
+-- and T (k + 1) at the child's node. Assumes nothing.
 use borrow.Author.Needs.{needs}
 use mathlib.Core.Path.{_≡_, refl, sym, _∙_}
 use Prim.Native.Nat.{_+_, _-_, _*_, _≤_}
@@ -29,8 +30,15 @@ loop-holds : tie.Need-loop-holds Inv-loop μ-loop
 unfolding T
 loop-holds c =
     let s = c .before .before .before .before .before .before in
-    let a = s .args in
-    (omega arith, sym (zero-mul _), refl, refl, refl, adding-none (a .at) (a .order) (termOf (a .order) (a .polynomials .now) (a .x)) (a .operators .now) (s .pre .1) _ (c .before .before .fill-with .ensures))
+    let a = s .args in (
+      omega arith,
+      sym (zero-mul _),
+      refl,
+      refl,
+      refl,
+      adding-none (a .at) (a .order) (termOf (a .order) (a .polynomials .now) (a .x))
+          (a .operators .now) (s .pre .1) _ (c .before .before .fill-with .ensures),
+    )
 
 add-scaled-requires : tie.Need-add-scaled-requires Inv-loop μ-loop
 add-scaled-requires c κs =
@@ -61,7 +69,8 @@ loop-again c =
     let a = s .args in
     let call = c .before .before .add-scaled in
     let zeros = t .before .before .before in
-    let fits : a .at + a .order ≤ length (zeros .before .fill-with .last .1 .1 .1 .0) = omega (arith, zeros .before .fill-with .kept, s .pre .1) in (
+    let fits : a .at + a .order ≤ length (zeros .before .fill-with .last .1 .1 .1 .0) = omega
+    (arith, zeros .before .fill-with .kept, s .pre .1) in (
       omega arith,
       omega (arith, next-column (l .k) (a .order), l .inv .1),
       l .inv .3,
@@ -80,7 +89,8 @@ returns c =
     let s = c .before .before .before .before .before .before .before .before in
     let a = s .args in
     let all : l .k ≡ a .order = omega arith in
-    adding-all (a .at) (a .order) (termOf (a .order) (a .polynomials .now) (a .x)) (a .operators .now) (s .pre .1) _ (l .operators) (a .order)
+    adding-all (a .at) (a .order) (termOf (a .order) (a .polynomials .now) (a .x)) (a .operators .now) (s .pre .1) _ (l .operators)
+    (a .order)
     (c .before .before .before .before .fill-with .ensures) (rw all at (l .inv .5))
 
 pub sum-column-spec : {M : Type 1} → statement M

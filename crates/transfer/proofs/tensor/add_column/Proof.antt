@@ -53,7 +53,8 @@ loop-again c =
     let s = i .before .before in
     let a = s .args in
     changing-front 4 (added (a .value) (a .strip .now) (a .at) (a .sums .now))
-    (λ x. plus x (times (a .value) (getD (a .strip .now) (a .at + l .k) nan))) _ _ _ nan _ (l .inv) (i .loop-test .taken) (s .pre .1) refl refl
+    (λ x. plus x (times (a .value) (getD (a .strip .now) (a .at + l .k) nan))) _ _ _ nan _ (l .inv) (i .loop-test .taken)
+    (s .pre .1) refl refl
 
 same-length : tie.Need-same-length Inv-loop μ-loop
 same-length c = c .before .loop .inv .long

@@ -28,7 +28,8 @@ transfer-axes-requires c κs =
     let a = c .before .before .before .before .before .before .before .before .before .before .before .before .args in
     let h = transfer-accepted (a .dimension) (a .order) (a .child) (length (a .input .now)) (length (a .operators .now))
     (length (a .first .now)) (length (a .second .now))
-    (sym (c .before .before .before .before .before .before .before .transfer-number .ensures) ∙ c .before .before .before .before .before .before .if1 .left) in
+    (sym (c .before .before .before .before .before .before .before .transfer-number .ensures)
+    ∙ c .before .before .before .before .before .before .if1 .left) in
     (h .shape, h .operators, c .before .before .before .before .copy-column .kept .1 .1 .1 .0 ∙ h .first, h .second)
 
 same-length : tie.Need-same-length
@@ -39,7 +40,8 @@ same-length-2 c = search needs
 
 returns-2 : tie.Need-returns-2
 returns-2 c =
-    let a = c .before .before .before .before .before .before .before .before .before .before .before .before .before .before .before .before .before .args in
+    let a = c .before .before .before .before .before .before .before .before .before .before .before .before .before .before .before
+    .before .before .args in
     transfer-done (a .dimension) (a .order) (a .child) (a .transpose) (a .input .now) (a .operators .now) (a .first .now)
     (a .second .now) _
     (c .before .before .before .before .before .before .before .before .before .before .before .before .transfer-number .ensures) _ _ _

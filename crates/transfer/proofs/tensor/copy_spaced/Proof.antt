@@ -13,7 +13,8 @@ use Rattle.transfer.proofs.tensor.copy_spaced.Statement.{statement}
 use Rattle.transfer.proofs.tensor.copy_spaced.Tie as tie
 
 abbrev Inv-loop : tie.InvT-loop
-Inv-loop count source from step at gap out₀ k₀ out k = (k ≤ count) × (length out ≡ length out₀) × (out ≡ stores (λ n. at + gap * n) (spaced source from step) k out₀)
+Inv-loop count source from step at gap out₀ k₀ out k = (k ≤ count) × (length out ≡ length out₀)
+    × (out ≡ stores (λ n. at + gap * n) (spaced source from step) k out₀)
 
 abbrev μ-loop : tie.MeasureT-loop
 μ-loop count source from step at gap out₀ k₀ out k = count - k
@@ -35,13 +36,28 @@ shared-slice-read-out : tie.Need-shared-slice-read-out Inv-loop μ-loop
 shared-slice-read-out c = let i = c .before in i .before .before .pre .0 (i .before .loop .k) (i .loop-test .taken)
 
 mul-out-3 : tie.Need-mul-out-3 Inv-loop μ-loop
-mul-out-3 c = let i = c .before in omega (arith, i .before .before .pre .1 (i .before .loop .k) (i .loop-test .taken), i .before .before .good)
+mul-out-3 c = let i = c .before in omega (
+  arith,
+  i .before .before .pre .1 (i .before .loop .k)
+      (i .loop-test .taken),
+  i .before .before .good,
+)
 
 add-out-2 : tie.Need-add-out-2 Inv-loop μ-loop
-add-out-2 c = let i = c .before in omega (arith, i .before .before .pre .1 (i .before .loop .k) (i .loop-test .taken), i .before .before .good)
+add-out-2 c = let i = c .before in omega (
+  arith,
+  i .before .before .pre .1 (i .before .loop .k)
+      (i .loop-test .taken),
+  i .before .before .good,
+)
 
 mul-out-4 : tie.Need-mul-out-4 Inv-loop μ-loop
-mul-out-4 c = let i = c .before in omega (arith, i .before .before .pre .1 (i .before .loop .k) (i .loop-test .taken), i .before .before .good)
+mul-out-4 c = let i = c .before in omega (
+  arith,
+  i .before .before .pre .1 (i .before .loop .k)
+      (i .loop-test .taken),
+  i .before .before .good,
+)
 
 slice-write-out : tie.Need-slice-write-out Inv-loop μ-loop
 slice-write-out c = let i = c .before in rw (i .before .loop .inv .1) (i .before .before .pre .1 (i .before .loop .k) (i .loop-test .taken))

@@ -25,8 +25,11 @@ copy-spaced-requires c κs =
 copy-spaced-requires-2 : tie.Need-copy-spaced-requires-2
 copy-spaced-requires-2 c κs =
     let s = c .before .before .before .before in
-    let a = s .args in
-    (row-fits (a .order) (a .order) (a .r) _ (s .pre .1) (omega (arith, s .pre .3)), row-fits 4 (a .order) (a .lane) _ (s .pre .2) (omega (arith, s .pre)))
+    let a = s .args in (
+      row-fits (a .order) (a .order) (a .r) _ (s .pre .1) (omega (arith, s .pre .3)),
+      row-fits 4 (a .order) (a .lane) _ (s .pre .2)
+          (omega (arith, s .pre)),
+    )
 
 same-length : tie.Need-same-length
 same-length c = search needs

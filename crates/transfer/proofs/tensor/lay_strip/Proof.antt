@@ -12,7 +12,8 @@ use Rattle.transfer.proofs.tensor.lay_strip.Statement.{statement}
 use Rattle.transfer.proofs.tensor.lay_strip.Tie as tie
 
 abbrev Inv-loop : tie.InvT-loop
-Inv-loop order block transpose first rows strip₀ k₀ strip k = (k ≤ rows) × StripOf order (directed transpose (matrix order block)) first k strip
+Inv-loop order block transpose first rows strip₀ k₀ strip k = (k ≤ rows)
+    × StripOf order (directed transpose (matrix order block)) first k strip
 
 abbrev μ-loop : tie.MeasureT-loop
 μ-loop order block transpose first rows strip₀ k₀ strip k = rows - k
@@ -39,8 +40,11 @@ loop-again : tie.Need-loop-again Inv-loop μ-loop
 loop-again c =
     let s = c .before .before .before .before .before .before .before .before in
     let l = c .before .before .before .before .before .loop in
-    let a = s .args in
-    (omega arith, lay-more (a .order) (directed (a .transpose) (matrix (a .order) (a .block .now))) (a .first) (l .k) (l .strip) _ (s .pre .0) (omega (arith, s .pre)) (l .inv .1) (c .before .before .lay-row .ensures))
+    let a = s .args in (
+      omega arith,
+      lay-more (a .order) (directed (a .transpose) (matrix (a .order) (a .block .now))) (a .first) (l .k) (l .strip) _
+          (s .pre .0) (omega (arith, s .pre)) (l .inv .1) (c .before .before .lay-row .ensures),
+    )
 
 same-length : tie.Need-same-length Inv-loop μ-loop
 same-length c = c .before .loop .inv .1 .long ∙ sym (c .before .before .before .before .pre .4)

@@ -57,13 +57,20 @@ slice-aggregate-lay-strip : tie.Need-slice-aggregate-lay-strip Inv-loop μ-loop
 slice-aggregate-lay-strip c = search needs
 
 lay-strip-requires : tie.Need-lay-strip-requires Inv-loop μ-loop
-lay-strip-requires c κs = let s = c .before .before .before .before .before .before .before in (s .pre .0, few (c .before) .1, few (c .before) .0, s .pre .2, c .before .before .before .loop .inv .3)
+lay-strip-requires c κs = let s = c .before .before .before .before .before .before .before in
+    (s .pre .0, few (c .before) .1, few (c .before) .0, s .pre .2, c .before .before .before .loop .inv .3)
 
 slice-aggregate-pass-strip : tie.Need-slice-aggregate-pass-strip Inv-loop μ-loop
 slice-aggregate-pass-strip c = search needs
 
 mul-pass-strip : tie.Need-mul-pass-strip Inv-loop μ-loop
-mul-pass-strip c = let d = c .before .before .before .before in omega (arith, room d, d .before .before .before .before .before .before .good, d .before .before .loop .inv .2)
+mul-pass-strip c = let d = c .before .before .before .before in omega (
+  arith,
+  room d,
+  d .before .before .before .before .before .before
+      .good,
+  d .before .before .loop .inv .2,
+)
 
 sub-pass-strip : tie.Need-sub-pass-strip Inv-loop μ-loop
 sub-pass-strip c = search needs
@@ -77,8 +84,14 @@ part-pass-strip-end c = let d = c .before .before .before .before in omega (arit
 pass-strip-requires : tie.Need-pass-strip-requires Inv-loop μ-loop
 pass-strip-requires c κs =
     let d = c .before .before .before .before .before in
-    let s = d .before .before .before .before .before .before in
-    (s .pre .0, few d .0, s .pre .1, c .before .before .before .lay-strip .ensures .long, part-length _ _ (d .least .result * s .args .width) _ refl (room d))
+    let s = d .before .before .before .before .before .before in (
+      s .pre .0,
+      few d .0,
+      s .pre .1,
+      c .before .before .before .lay-strip .ensures .long,
+      part-length _ _
+          (d .least .result * s .args .width) _ refl (room d),
+    )
 
 add-r : tie.Need-add-r Inv-loop μ-loop
 add-r c =
@@ -96,9 +109,11 @@ loop-again c =
     let l = d .before .before .loop in
     let s = d .before .before .before .before .before .before in
     let a = s .args in
-    let made = strip-filled (a .order) (a .width) (matrix (a .order) (a .values .now)) (directed (a .transpose) (matrix (a .order) (a .block .now))) (a .out .now)
+    let made = strip-filled (a .order) (a .width) (matrix (a .order) (a .values .now))
+    (directed (a .transpose) (matrix (a .order) (a .block .now))) (a .out .now)
     (l .out) _ _ (l .r) (d .least .result) (l .at) (l .at + d .least .result * a .width) (l .inv .1) refl
-    (rw (l .inv .2) at (room d)) (c .before .before .before .before .before .before .lay-strip .ensures) (c .before .before .pass-strip .ensures) (l .inv .2) (l .inv .4) in (
+    (rw (l .inv .2) at (room d)) (c .before .before .before .before .before .before .lay-strip .ensures)
+    (c .before .before .pass-strip .ensures) (l .inv .2) (l .inv .4) in (
       few d .1,
       omega (arith, l .inv .1, add-mul (l .r) (d .least .result) (a .width)),
       ap length made ∙ stretch-length 0 _ (a .out .now) (l .at + d .least .result * a .width) (omega (arith, room d, l .inv .2)),
@@ -115,7 +130,8 @@ returns c =
     let s = c .before .before .before .before .before in
     let a = s .args in
     let all : l .r ≡ a .order = omega arith in
-    l .inv .4 ∙ rows-all (a .order) (a .width) (matrix (a .order) (a .values .now)) (directed (a .transpose) (matrix (a .order) (a .block .now))) (a .out .now)
+    l .inv .4 ∙ rows-all (a .order) (a .width) (matrix (a .order) (a .values .now))
+    (directed (a .transpose) (matrix (a .order) (a .block .now))) (a .out .now)
     (l .at) (s .pre .3) (rw all at (l .inv .1))
 
 pub pass-spec : {M : Type 1} → statement M

@@ -31,8 +31,12 @@ slice-aggregate-sum-strip c = search needs
 sum-strip-requires : tie.Need-sum-strip-requires Inv-loop μ-loop
 sum-strip-requires c κs =
     let l = c .before .before .loop in
-    let s = c .before .before .before .before .before .before in
-    (s .pre .0, rw (s .pre .2) (column-fits (l .c) (s .args .width) (s .args .order) (l .from) (c .before .loop-test .taken) (l .inv .1)), s .pre .3, refl)
+    let s = c .before .before .before .before .before .before in (
+      s .pre .0,
+      rw (s .pre .2) (column-fits (l .c) (s .args .width) (s .args .order) (l .from) (c .before .loop-test .taken) (l .inv .1)),
+      s .pre .3,
+      refl,
+    )
 
 slice-aggregate-copy-spaced : tie.Need-slice-aggregate-copy-spaced Inv-loop μ-loop
 slice-aggregate-copy-spaced c = search needs
@@ -42,14 +46,24 @@ copy-spaced-requires c κs =
     let l = c .before .before .before .before .before .before .loop in
     let s = c .before .before .before .before .before .before .before .before .before .before in
     let long : length (l .out) ≡ s .args .rows * s .args .width = l .inv .2 ∙ s .pre .4 in
-    let four : length (c .before .before .before .sum-strip .last .1 .1 .1 .1 .0) ≡ 4 = ap length (c .before .before .before .sum-strip .ensures) in
-    (λ k h. omega (arith, s .pre .1), row-fits (s .args .width) (s .args .rows) (l .c) (length (l .out)) (c .before .before .before .before .before .loop-test .taken) (omega arith))
+    let four : length (c .before .before .before .sum-strip .last .1 .1 .1 .1 .0)
+    ≡ 4 = ap length (c .before .before .before .sum-strip .ensures) in (
+      λ k h. omega (arith, s .pre .1),
+      row-fits (s .args .width) (s .args .rows) (l .c) (length (l .out))
+          (c .before .before .before .before .before .loop-test .taken) (omega arith),
+    )
 
 add-from : tie.Need-add-from Inv-loop μ-loop
 add-from c =
     let l = c .before .before .before .before .before .before .before .before .before .loop in
     let s = c .before .before .before .before .before .before .before .before .before .before .before .before .before in
-    omega (arith, column-fits (l .c) (s .args .width) (s .args .order) (l .from) (c .before .before .before .before .before .before .before .before .loop-test .taken) (l .inv .1), s .pre .2, s .good)
+    omega (
+      arith,
+      column-fits (l .c) (s .args .width) (s .args .order) (l .from)
+          (c .before .before .before .before .before .before .before .before .loop-test .taken) (l .inv .1),
+      s .pre .2,
+      s .good,
+    )
 
 add-c : tie.Need-add-c Inv-loop μ-loop
 add-c c = search needs
@@ -71,7 +85,8 @@ loop-again c =
       λ i j b b'. ap (λ (o : List Float). getD o (j * a .width + i) nan) (call .ensures)
           ∙ rows-more (a .width) (a .rows) (λ i. summed (a .order) (a .values .now) (i * a .order) (a .strip .now)) (l .out) nan (l .c) _
           (c .before .before .before .before .before .before .before .before .loop-test .taken) (omega arith) (l .inv .3)
-          (λ k h. column-sum (a .order) (a .values .now) (a .strip .now) _ (l .from) (l .c) k (omega (arith, s .pre .1)) (l .inv .1) made) i j b b',
+          (λ k h. column-sum (a .order) (a .values .now) (a .strip .now) _ (l .from) (l .c) k (omega (arith, s .pre .1)) (l .inv .1) made)
+          i j b b',
     )
 
 same-length : tie.Need-same-length Inv-loop μ-loop
@@ -82,7 +97,8 @@ returns c =
     let l = c .before .loop in
     let s = c .before .before .before .before .before in
     let a = s .args in
-    by-entries (a .width) (λ i. summed (a .order) (a .values .now) (i * a .order) (a .strip .now)) (a .rows) (l .out) nan (l .inv .2 ∙ s .pre .4)
+    by-entries (a .width) (λ i. summed (a .order) (a .values .now) (i * a .order) (a .strip .now)) (a .rows) (l .out) nan
+    (l .inv .2 ∙ s .pre .4)
     (λ i j b b'. l .inv .3 i j (omega arith) b')
 
 pub pass-strip-spec : {M : Type 1} → statement M

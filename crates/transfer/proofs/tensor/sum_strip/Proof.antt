@@ -53,14 +53,16 @@ loop-again c =
     let a = s .args in (
       omega arith,
       omega (arith, l .inv .1),
-      c .before .before .add-column .ensures ∙ sum-more (a .values .now) (a .strip .now) (l .sums) (a .from) (l .s) (l .at) (l .inv .1) (l .inv .2),
+      c .before .before .add-column .ensures ∙ sum-more (a .values .now) (a .strip .now) (l .sums) (a .from) (l .s) (l .at) (l .inv .1)
+          (l .inv .2),
     )
 
 same-length : tie.Need-same-length Inv-loop μ-loop
 same-length c = ap length (c .before .loop .inv .2) ∙ sym (ap length (c .before .before .before .before .before .pre .3))
 
 returns : tie.Need-returns Inv-loop μ-loop
-returns c = let all : c .before .loop .s ≡ c .before .before .before .before .before .args .order = omega arith in rw all at (c .before .loop .inv .2)
+returns c = let all : c .before .loop .s ≡ c .before .before .before .before .before .args .order = omega arith in rw all at
+    (c .before .loop .inv .2)
 
 pub sum-strip-spec : {M : Type 1} → statement M
 sum-strip-spec =

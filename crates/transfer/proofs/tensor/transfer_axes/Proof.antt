@@ -21,7 +21,8 @@ transfer-axis-requires : tie.Need-transfer-axis-requires
 transfer-axis-requires c κs =
     let s = c .before .before .before .before .before .before in
     let a = s .args in
-    pass-ready (a .dimension) (a .order) _ _ _ _ _ (s .pre .0) (s .pre .1) (c .before .before .power .ensures) (omega (arith, s .pre .0 .dimension-most))
+    pass-ready (a .dimension) (a .order) _ _ _ _ _ (s .pre .0) (s .pre .1) (c .before .before .power .ensures)
+    (omega (arith, s .pre .0 .dimension-most))
     (s .pre .2) (s .pre .3)
 
 same-length : tie.Need-same-length
@@ -43,7 +44,8 @@ transfer-axis-requires-2 : tie.Need-transfer-axis-requires-2
 transfer-axis-requires-2 c κs =
     let s = c .before .before .before .before .before .before .before .before .before .before .before .before in
     let a = s .args in
-    pass-ready (a .dimension) (a .order) _ _ _ _ _ (s .pre .0) (s .pre .1) (c .before .before .before .before .before .before .before .before .power .ensures) (omega (arith, s .pre .0 .dimension-most))
+    pass-ready (a .dimension) (a .order) _ _ _ _ _ (s .pre .0) (s .pre .1)
+    (c .before .before .before .before .before .before .before .before .power .ensures) (omega (arith, s .pre .0 .dimension-most))
     (c .before .before .before .before .before .transfer-axis .kept .1 .1 .1 .1 .1 .1 .1 .0 ∙ s .pre .3) (s .pre .2)
 
 same-length-3 : tie.Need-same-length-3
@@ -54,7 +56,8 @@ same-length-4 c = search needs
 
 returns-2 : tie.Need-returns-2
 returns-2 c =
-    let s = c .before .before .before .before .before .before .before .before .before .before .before .before .before .before .before .before in
+    let s = c .before .before .before .before .before .before .before .before .before .before .before .before .before .before .before
+    .before in
     let a = s .args in
     axes-two (λ w. along (a .order) w (a .child) (a .transpose) (a .operators .now)) (a .dimension) _ _
     (c .before .before .before .before .before .before .before .before .before .before .before .before .power .ensures)
@@ -64,10 +67,15 @@ returns-2 c =
 
 transfer-axis-requires-3 : tie.Need-transfer-axis-requires-3
 transfer-axis-requires-3 c κs =
-    let s = c .before .before .before .before .before .before .before .before .before .before .before .before .before .before .before .before .before .before in
+    let s = c .before .before .before .before .before .before .before .before .before .before .before .before .before .before .before
+    .before .before .before in
     let a = s .args in
-    pass-ready (a .dimension) (a .order) _ _ _ _ _ (s .pre .0) (s .pre .1) (c .before .before .before .before .before .before .before .before .before .before .before .before .before .before .power .ensures) (omega arith)
-    (c .before .before .before .before .before .transfer-axis2 .kept .1 .1 .1 .1 .1 .1 .1 .0 ∙ s .pre .2) (c .before .before .before .before .before .before .before .before .before .before .before .transfer-axis .kept .1 .1 .1 .1 .1 .1 .1 .0 ∙ s .pre .3)
+    pass-ready (a .dimension) (a .order) _ _ _ _ _ (s .pre .0) (s .pre .1)
+    (c .before .before .before .before .before .before .before .before .before .before .before .before .before .before .power .ensures)
+    (omega arith)
+    (c .before .before .before .before .before .transfer-axis2 .kept .1 .1 .1 .1 .1 .1 .1 .0 ∙ s .pre .2)
+    (c .before .before .before .before .before .before .before .before .before .before .before .transfer-axis .kept .1 .1 .1 .1 .1 .1 .1
+    .0 ∙ s .pre .3)
 
 same-length-5 : tie.Need-same-length-5
 same-length-5 c = search needs
@@ -77,12 +85,15 @@ same-length-6 c = search needs
 
 returns-3 : tie.Need-returns-3
 returns-3 c =
-    let s = c .before .before .before .before .before .before .before .before .before .before .before .before .before .before .before .before .before .before .before .before .before in
+    let s = c .before .before .before .before .before .before .before .before .before .before .before .before .before .before .before
+    .before .before .before .before .before .before in
     let a = s .args in
     axes-three (λ w. along (a .order) w (a .child) (a .transpose) (a .operators .now)) (a .dimension) _ _
-    (c .before .before .before .before .before .before .before .before .before .before .before .before .before .before .before .before .before .power .ensures)
+    (c .before .before .before .before .before .before .before .before .before .before .before .before .before .before .before .before
+    .before .power .ensures)
     (a .first .now) (a .second .now) _ _ _ (omega (arith, s .pre .0 .dimension-most))
-    (c .before .before .before .before .before .before .before .before .before .before .before .before .before .before .transfer-axis .ensures)
+    (c .before .before .before .before .before .before .before .before .before .before .before .before .before .before .transfer-axis
+    .ensures)
     (c .before .before .before .before .before .before .before .before .transfer-axis2 .ensures)
     (c .before .before .transfer-axis3 .ensures)
 

@@ -11,7 +11,8 @@ use Rattle.transfer.proofs.tensor.transfer_axis.Tie as tie
 
 -- the block has its place: the side is 0 or 1
 fits : (c : tie.After-side-of) →
-    let a = c .before .before .before .before .args in c .side-of .result * (a .order * a .order) + a .order * a .order ≤ length (a .operators .now)
+    let a = c .before .before .before .before .args in c .side-of .result * (a .order * a .order) + a .order * a .order ≤ length
+    (a .operators .now)
 fits c =
     let s = c .before .before .before .before in
     let two : c .side-of .result < 2 = rw (c .side-of .ensures) (mod-lt _ (omega arith)) in
@@ -55,7 +56,8 @@ returns c =
     let d = c .before .before .before .before .before in
     let s = d .before .before .before .before in
     let a = s .args in
-    c .before .before .pass .ensures ∙ along-block (a .order) (a .width) (a .child) (a .axis) (d .side-of .result) _ (a .transpose) (a .operators .now) (a .values .now)
+    c .before .before .pass .ensures ∙ along-block (a .order) (a .width) (a .child) (a .axis) (d .side-of .result) _ (a .transpose)
+    (a .operators .now) (a .values .now)
     (d .side-of .ensures) refl (s .pre .2)
 
 pub transfer-axis-spec : {M : Type 1} → statement M

@@ -63,7 +63,8 @@ mul-if4 c =
 returns-4 : tie.Need-returns-4
 returns-4 c =
     let a = c .before .before .before .before .before .before .before .args in
-    let ok = sym (c .before .before .before .before .before .before .shape-number .ensures) ∙ c .before .before .before .before .before .if1 .left in
+    let ok = sym (c .before .before .before .before .before .before .shape-number .ensures)
+    ∙ c .before .before .before .before .before .if1 .left in
     transfer-operators (a .dimension) (a .order) (a .child) (a .input) (a .operators) (a .first) (a .second) ok
     (rw (c .before .before .before .before .power .ensures) at (c .before .before .before .if2 .left))
     (rw (c .before .before .power2 .ensures) at (c .before .if3 .left)) (c .if4 .taken)
@@ -71,7 +72,8 @@ returns-4 c =
 returns-5 : tie.Need-returns-5
 returns-5 c =
     let a = c .before .before .before .before .before .before .before .before .args in
-    let ok = sym (c .before .before .before .before .before .before .before .shape-number .ensures) ∙ c .before .before .before .before .before .before .if1 .left in
+    let ok = sym (c .before .before .before .before .before .before .before .shape-number .ensures)
+    ∙ c .before .before .before .before .before .before .if1 .left in
     let n = c .before .before .before .power2 .ensures in
     transfer-first (a .dimension) (a .order) (a .child) (a .input) (a .operators) (a .first) (a .second) ok
     (rw (c .before .before .before .before .before .power .ensures) at (c .before .before .before .before .if2 .left))
@@ -80,7 +82,8 @@ returns-5 c =
 returns-6 : tie.Need-returns-6
 returns-6 c =
     let a = c .before .before .before .before .before .before .before .before .before .args in
-    let ok = sym (c .before .before .before .before .before .before .before .before .shape-number .ensures) ∙ c .before .before .before .before .before .before .before .if1 .left in
+    let ok = sym (c .before .before .before .before .before .before .before .before .shape-number .ensures)
+    ∙ c .before .before .before .before .before .before .before .if1 .left in
     let n = c .before .before .before .before .power2 .ensures in
     transfer-second (a .dimension) (a .order) (a .child) (a .input) (a .operators) (a .first) (a .second) ok
     (rw (c .before .before .before .before .before .before .power .ensures) at (c .before .before .before .before .before .if2 .left))
@@ -90,7 +93,8 @@ returns-6 c =
 returns-7 : tie.Need-returns-7
 returns-7 c =
     let a = c .before .before .before .before .before .before .before .before .before .args in
-    let ok = sym (c .before .before .before .before .before .before .before .before .shape-number .ensures) ∙ c .before .before .before .before .before .before .before .if1 .left in
+    let ok = sym (c .before .before .before .before .before .before .before .before .shape-number .ensures)
+    ∙ c .before .before .before .before .before .before .before .if1 .left in
     let n = c .before .before .before .before .power2 .ensures in
     transfer-none (a .dimension) (a .order) (a .child) (a .input) (a .operators) (a .first) (a .second) ok
     (rw (c .before .before .before .before .before .before .power .ensures) at (c .before .before .before .before .before .if2 .left))

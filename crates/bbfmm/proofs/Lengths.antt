@@ -10,7 +10,7 @@ use borrow.Author.Tests.{ne-eqb}
 use Rattle.common.specs.Refusals.{wrongLength, lower}
 use Rattle.common.proofs.Cases.{by-eq}
 use Rattle.common.proofs.Limits.{call-refused, call-done}
-use Rattle.bbfmm.specs.Answers.{withLength, told}
+use Rattle.bbfmm.specs.Answers.{withLength, written}
 
 -- THE NUMBER
 
@@ -26,18 +26,18 @@ with-refusal own false h = rw (ne-eqb own 0 h) (λ z. omega arith)
 -- THE CALL
 
 module _ {A : Type 0} (values lent : List A) where
-  pub told-refused : (own r : ℕ) → r ≡ withLength own (eqb (length lent) (length values)) → (own ≡ 0 → ⊥) → (r, lent) ≡ told own values lent
-  unfolding told
-  told-refused own r e h = call-refused r _ values lent e (rw e (with-refusal own (eqb (length lent) (length values)) h))
+  pub written-refused : (own r : ℕ) → r ≡ withLength own (eqb (length lent) (length values)) → (own ≡ 0 → ⊥) → (r, lent) ≡ written own values lent
+  unfolding written
+  written-refused own r e h = call-refused r _ values lent e (rw e (with-refusal own (eqb (length lent) (length values)) h))
 
-  pub told-unfit : (own : ℕ) → own ≡ 0 → eqb (length lent) (length values) ≡ false → (wrongLength, lent) ≡ told own values lent
-  unfolding told withLength lower
-  told-unfit own z e = call-refused wrongLength _ values lent (rw (z, e)) (λ h. omega arith)
+  pub written-unfit : (own : ℕ) → own ≡ 0 → eqb (length lent) (length values) ≡ false → (wrongLength, lent) ≡ written own values lent
+  unfolding written withLength lower
+  written-unfit own z e = call-refused wrongLength _ values lent (rw (z, e)) (λ h. omega arith)
 
-  pub told-done : (own : ℕ) (after : List A) → own ≡ 0 → eqb (length lent) (length values) ≡ true → after ≡ values →
-      (0, after) ≡ told own values lent
-  unfolding told withLength lower
-  told-done own after z e h = call-done 0 _ values lent (rw (z, e)) after refl h
+  pub written-done : (own : ℕ) (after : List A) → own ≡ 0 → eqb (length lent) (length values) ≡ true → after ≡ values →
+      (0, after) ≡ written own values lent
+  unfolding written withLength lower
+  written-done own after z e h = call-done 0 _ values lent (rw (z, e)) after refl h
 
 -- THE STORES: a list of one to four places, each written in turn
 

@@ -4,11 +4,11 @@ use mathlib.Core.List.{List, [], _∷_}
 use Prim.Native.Nat.{ℕ, zero, suc}
 use native.Mathlib.Omega.{arith}
 use Rattle.common.specs.Refusals.{answer}
-use Rattle.bbfmm.specs.Answers.{told}
+use Rattle.bbfmm.specs.Answers.{written}
 use Rattle.bbfmm.specs.Working.{placeTold}
-use Rattle.bbfmm.proofs.Lengths.{told-refused}
+use Rattle.bbfmm.proofs.Lengths.{written-refused}
 
-pub place-told : (n k : ℕ) (lent : List ℕ) → placeTold (answer n k) lent ≡ told n (k ∷ []) lent
+pub place-told : (n k : ℕ) (lent : List ℕ) → placeTold (answer n k) lent ≡ written n (k ∷ []) lent
 unfolding placeTold
 place-told zero k lent = refl
-place-told (suc n) k lent = told-refused (k ∷ []) lent (suc n) _ refl (λ z. omega arith)
+place-told (suc n) k lent = written-refused (k ∷ []) lent (suc n) _ refl (λ z. omega arith)

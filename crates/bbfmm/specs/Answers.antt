@@ -12,7 +12,7 @@ withLength own fits = lower own (unless fits wrongLength 0)
 
 module _ {A : Type 0} where
   -- the call's number, and the lent answer after it: the values where the number is 0, otherwise as lent
-  unfoldable pub told : (own : ℕ) → (values answer : List A) → ℕ × List A
-  told own values answer =
+  unfoldable pub written : (own : ℕ) → (values answer : List A) → ℕ × List A
+  written own values answer =
       let n = withLength own (eqb (length answer) (length values)) in
       (n, left n values answer)

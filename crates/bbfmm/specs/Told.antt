@@ -17,26 +17,26 @@ use Rattle.choices.specs.Cutoff.{cutoff, cutoffNumber}
 use Rattle.aca_steps.specs.Memories.{Memory, laid}
 use Rattle.aca.specs.Runs.{report, lengths, acaNumber, approximation}
 use Rattle.aca.specs.declared.Report.{Report}
-use Rattle.bbfmm.specs.Answers.{withLength, told}
+use Rattle.bbfmm.specs.Answers.{withLength, written}
 
 -- index, case and reference number, and 1 for near, else 0
 abbrev pub knownValues : Known → List ℕ
 knownValues k = k .index ∷ k .case ∷ k .reference ∷ cond (k .near) 1 0 ∷ []
 
 unfoldable pub lookUpTold : (D : ℕ) → Vector → (answer : List ℕ) → ℕ × List ℕ
-lookUpTold D v = told (lookUpNumber D (sizes (entries v))) (knownValues (knownOf D (entries v)))
+lookUpTold D v = written (lookUpNumber D (sizes (entries v))) (knownValues (knownOf D (entries v)))
 
 abbrev pub vectorValues : Vector → List ℤ
 vectorValues v = v .0 ∷ v .1 ∷ v .2 ∷ []
 
 unfoldable pub referenceTold : (D i : ℕ) → (vector : List ℤ) → ℕ × List ℤ
-referenceTold D i = told (referenceNumber D i) (vectorValues (referenceAt D i))
+referenceTold D i = written (referenceNumber D i) (vectorValues (referenceAt D i))
 
 unfoldable pub argmaxTold : (entries : List Float) → (mask place : List ℕ) → ℕ × List ℕ
-argmaxTold l mask = told (argmaxNumber l mask) (argmax l (counts mask) ∷ [])
+argmaxTold l mask = written (argmaxNumber l mask) (argmax l (counts mask) ∷ [])
 
 unfoldable pub cutoffTold : (values : List Float) → (epsilon : Float) → (place : List ℕ) → ℕ × List ℕ
-cutoffTold l epsilon = told (cutoffNumber l) (cutoff l epsilon ∷ [])
+cutoffTold l epsilon = written (cutoffNumber l) (cutoff l epsilon ∷ [])
 
 -- CROSS APPROXIMATION: its report in two slices, of three numbers and of one float
 

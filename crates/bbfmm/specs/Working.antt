@@ -8,13 +8,13 @@ use lib.Ieee.{Float}
 use lib.ListN.{length}
 use Rattle.common.specs.Refusals.{noCount, wrongLength, unless, mostEntries}
 use Rattle.aca.specs.declared.Report.{Report}
-use Rattle.bbfmm.specs.Answers.{withLength, told}
+use Rattle.bbfmm.specs.Answers.{withLength, written}
 use Rattle.bbfmm.specs.Told.{countsOf}
 
 -- what a call tells, a number and perhaps a place, in a lent answer
 abbrev pub placeOrNone : (number : ℕ) → Option ℕ → (answer : List ℕ) → ℕ × List ℕ
 placeOrNone n none answer = (withLength n (eqb (length answer) 1), answer)
-placeOrNone n (some k) answer = told n (k ∷ []) answer
+placeOrNone n (some k) answer = written n (k ∷ []) answer
 
 unfoldable pub placeTold : ℕ × Option ℕ → (answer : List ℕ) → ℕ × List ℕ
 placeTold x = placeOrNone (x .0) (x .1)

@@ -6,7 +6,7 @@ use mathlib.Core.List.{[], _∷_}
 use native.Mathlib.Omega.{arith}
 use lib.ListN.{length}
 use Rattle.bbfmm.specs.Working.{placeTold}
-use Rattle.bbfmm.proofs.Lengths.{told-unfit, told-done, stored-one}
+use Rattle.bbfmm.proofs.Lengths.{written-unfit, written-done, stored-one}
 use Rattle.bbfmm.proofs.choices_calls.tell_place.Statement.{statement}
 use Rattle.bbfmm.proofs.choices_calls.tell_place.Tie as tie
 
@@ -34,7 +34,7 @@ unfolding placeTold
 returns c =
     let place = c .before .before .before .before .before .args .place .now in
     rw (c .before .before .found2 .given .1)
-    (told-done (c .before .before .found2 .given .0 .0 ∷ []) place 0 _ refl (c .if1 .taken) (stored-one place _ (fitting c)))
+    (written-done (c .before .before .found2 .given .0 .0 ∷ []) place 0 _ refl (c .if1 .taken) (stored-one place _ (fitting c)))
 
 returns-2 : tie.Need-returns-2
 unfolding placeTold
@@ -44,7 +44,7 @@ returns-3 : tie.Need-returns-3
 unfolding placeTold
 returns-3 c =
     rw (c .before .before .found2 .given .1)
-    (told-unfit (c .before .before .found2 .given .0 .0 ∷ []) (c .before .before .before .before .before .args .place .now) 0 refl
+    (written-unfit (c .before .before .found2 .given .0 .0 ∷ []) (c .before .before .before .before .before .args .place .now) 0 refl
     (c .if1 .left))
 
 pub tell-place-spec : {M : Type 1} → statement M

@@ -8,7 +8,7 @@ use lib.ListN.{length, length-set}
 use mir.Val.{boolByte}
 use Rattle.turn.specs.LookUps.{toldLookUp, lookUp}
 use Rattle.bbfmm.specs.Told.{lookUpTold}
-use Rattle.bbfmm.proofs.Lengths.{told-refused, told-unfit, told-done, stored-four}
+use Rattle.bbfmm.proofs.Lengths.{written-refused, written-unfit, written-done, stored-four}
 use Rattle.bbfmm.proofs.Numbers.{look-held, look-refused, look-found}
 use Rattle.bbfmm.proofs.turn_calls.bbfmm_look_up.Statement.{statement}
 use Rattle.bbfmm.proofs.turn_calls.bbfmm_look_up.Tie as tie
@@ -66,7 +66,7 @@ returns c =
     let e = c .before .before .before .found2 .given .0 .0 in
     let found = look-found (a .dimension) (a .x, a .y, a .z) _ (answered (c .before .before .before .before .before)) e
     (c .before .before .before .found2 .given .1) in
-    told-done _ (a .answer .now) _ _ (found .0) (c .before .if1 .taken)
+    written-done _ (a .answer .now) _ _ (found .0) (c .before .if1 .taken)
     (stored-four (a .answer .now) _ _ _ _ (fitting (c .before)) ∙ rw (as-number (e .near), found .1))
 
 returns-2 : tie.Need-returns-2
@@ -75,7 +75,7 @@ returns-2 c =
     let a = c .before .before .before .before .before .before .args in
     let refused = look-refused (a .dimension) (a .x, a .y, a .z) _ (answered (c .before .before .before .before)) _
     (c .before .before .found .given .1) in
-    told-refused _ (a .answer .now) _ _ (c .with-length .ensures ∙ rw (refused .0)) (refused .1)
+    written-refused _ (a .answer .now) _ _ (c .with-length .ensures ∙ rw (refused .0)) (refused .1)
 
 returns-3 : tie.Need-returns-3
 unfolding lookUpTold
@@ -83,7 +83,7 @@ returns-3 c =
     let a = c .before .before .before .before .before .before .args in
     let found = look-found (a .dimension) (a .x, a .y, a .z) _ (answered (c .before .before .before .before)) _
     (c .before .before .found2 .given .1) in
-    told-unfit _ (a .answer .now) _ (found .0) (c .if1 .left)
+    written-unfit _ (a .answer .now) _ (found .0) (c .if1 .left)
 
 pub bbfmm-look-up-spec : {M : Type 1} → statement M
 bbfmm-look-up-spec =

@@ -7,7 +7,7 @@ use native.Mathlib.Omega.{arith}
 use lib.ListN.{length, length-set}
 use mir.Facts.{toZ-ofZ}
 use Rattle.bbfmm.specs.Told.{referenceTold}
-use Rattle.bbfmm.proofs.Lengths.{told-refused, told-unfit, told-done, stored-three}
+use Rattle.bbfmm.proofs.Lengths.{written-refused, written-unfit, written-done, stored-three}
 use Rattle.bbfmm.proofs.Numbers.{reference-refused, reference-found}
 use Rattle.bbfmm.proofs.turn_calls.bbfmm_reference_vector.Statement.{statement}
 use Rattle.bbfmm.proofs.turn_calls.bbfmm_reference_vector.Tie as tie
@@ -48,7 +48,7 @@ returns c =
     let g = c .before .before .struct-told .given in
     let found = reference-found (a .dimension) (a .number) _ (m .before .before .reference-vector .ensures) (m .found2 .given .0 .0)
     (m .found2 .given .1) in
-    told-done _ (a .vector .now) _ _ (found .0) (c .before .before .before .if1 .taken)
+    written-done _ (a .vector .now) _ _ (found .0) (c .before .before .before .if1 .taken)
     (stored-three (a .vector .now) _ _ _ (fitting c) ∙ rw (
       toZ-ofZ (sfits-of (g .0 .1)),
       toZ-ofZ (sfits-of (g .1 .0 .1)),
@@ -63,7 +63,7 @@ returns-2 c =
     let m = c .before .before in
     let a = m .before .before .before .args in
     let refused = reference-refused (a .dimension) (a .number) _ (m .before .before .reference-vector .ensures) _ (m .found .given .1) in
-    told-refused _ (a .vector .now) _ _ (c .with-length .ensures ∙ rw (refused .0)) (refused .1)
+    written-refused _ (a .vector .now) _ _ (c .with-length .ensures ∙ rw (refused .0)) (refused .1)
 
 returns-3 : tie.Need-returns-3
 unfolding referenceTold
@@ -71,7 +71,7 @@ returns-3 c =
     let m = c .before .before in
     let a = m .before .before .before .args in
     let found = reference-found (a .dimension) (a .number) _ (m .before .before .reference-vector .ensures) _ (m .found2 .given .1) in
-    told-unfit _ (a .vector .now) _ (found .0) (c .if1 .left)
+    written-unfit _ (a .vector .now) _ (found .0) (c .if1 .left)
 
 pub bbfmm-reference-vector-spec : {M : Type 1} → statement M
 bbfmm-reference-vector-spec =

@@ -63,14 +63,14 @@ module _ (dimension order child : ℕ) (transpose : Bool) (input operators first
 
 -- POINTS
 
-module _ (dimension order : ℕ) (length : Float) (reference : ℕ) (nodes points : List Float) (r r' : ℕ × List Float) where
-  bbfmm-generate-chebyshev-target-points-determined : r ≡ targetCall dimension order length nodes points →
-      r' ≡ targetCall dimension order length nodes points → r ≡ r'
-  bbfmm-generate-chebyshev-target-points-determined = coincide r r' (targetCall dimension order length nodes points)
+module _ (dimension order : ℕ) (side : Float) (reference : ℕ) (nodes points : List Float) (r r' : ℕ × List Float) where
+  bbfmm-generate-chebyshev-target-points-determined : r ≡ targetCall dimension order side nodes points →
+      r' ≡ targetCall dimension order side nodes points → r ≡ r'
+  bbfmm-generate-chebyshev-target-points-determined = coincide r r' (targetCall dimension order side nodes points)
 
-  bbfmm-generate-chebyshev-source-points-determined : r ≡ sourceCall dimension order length reference nodes points →
-      r' ≡ sourceCall dimension order length reference nodes points → r ≡ r'
-  bbfmm-generate-chebyshev-source-points-determined = coincide r r' (sourceCall dimension order length reference nodes points)
+  bbfmm-generate-chebyshev-source-points-determined : r ≡ sourceCall dimension order side reference nodes points →
+      r' ≡ sourceCall dimension order side reference nodes points → r ≡ r'
+  bbfmm-generate-chebyshev-source-points-determined = coincide r r' (sourceCall dimension order side reference nodes points)
 
 -- COEFFICIENTS
 

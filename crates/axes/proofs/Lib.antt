@@ -1,3 +1,2 @@
-pub mod Finite
 pub mod Stretches
 pub mod Determined

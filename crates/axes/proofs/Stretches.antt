@@ -3,7 +3,7 @@ use mathlib.Core.Path.{_≡_, refl, sym, ap, _∙_}
 use mathlib.Core.Bool.{Bool, true, false, cond}
 use mathlib.Core.List.{List}
 use Prim.Native.Nat.{ℕ, _+_, _-_, _*_, _/_, _%_, _<_, _≤_}
-use native.Mathlib.Nat.{zero-add, mod-lt, div-lt-iff-lt-mul}
+use native.Mathlib.Nat.{mod-lt, div-lt-iff-lt-mul}
 use native.Mathlib.Omega.{arith}
 use lib.Arith.{digits-div, digits-mod}
 use lib.Ieee.{Float, nan}
@@ -12,33 +12,17 @@ use Rattle.common.specs.Floats.{times, sums}
 use Rattle.common.specs.Lists.{stretch}
 use Rattle.common.specs.Matrices.{cell, columnMajor}
 use Rattle.common.specs.Refusals.{sizeIf}
-use Rattle.common.proofs.Fill.{stretch-none, fill-after, part-read, stretch-inside, stretch-cong, stretch-again, fill-on}
-use Rattle.common.proofs.Matrices.{some-rows, column-fits, cell-at, cell-block, column-entry, columns-filled}
-use Rattle.common.proofs.Steps.{Stepping, stepping-more}
+use Rattle.common.proofs.Fill.{stretch-none, part-read, stretch-inside, stretch-cong, stretch-again, fill-on}
+use Rattle.common.proofs.Matrices.{some-rows, cell-block, column-entry, columns-filled}
 use Rattle.common.proofs.Sums.{sums-cong}
 use Rattle.common.specs.Matrices.{matrix}
 use Rattle.chebyshev.specs.Polynomials.{atPoints}
-use Rattle.axes.specs.Axes.{coordinateIn, coordinate, onAxes}
+use Rattle.axes.specs.Axes.{onAxes}
 use Rattle.axes.specs.Working.{sumOf}
 
 -- the n entries of a list from place `at` on, as they are lent
 abbrev pub part : (list : List Float) (at n : ℕ) → List Float
 part list at n = take (at + n - at) (drop at list)
-
--- THE POINTS, coordinateIn axis by axis in place
-
-module _ (D P : ℕ) (l : Float) (centre before : List Float) where
-  pub axis-coordinateIn : length before ≡ D * P → (now next : List Float) (axis at : ℕ) →
-      Stepping 0 D P (cell P (coordinate P l centre before)) before now axis at → axis < D →
-      next ≡ stretch at P (λ i. coordinateIn l (getD centre axis nan) (getD now (at + i) nan)) now →
-      Stepping 0 D P (cell P (coordinate P l centre before)) before next (axis + 1) (at + P)
-  axis-coordinateIn whole now next axis at h m e =
-      let place : at ≡ axis * P = h .place ∙ zero-add (axis * P) in
-      let fits = column-fits axis D P (axis * P) m refl in
-      let here : (i : ℕ) → getD now (at + i) nan ≡ getD before (axis * P + i) nan =
-      λ i. rw (place, h .made) (fill-after (axis * P) (cell P (coordinate P l centre before)) before i nan (omega arith)) in
-      stepping-more 0 D P (cell P (coordinate P l centre before)) before now next axis at _ h m (omega arith)
-      (λ i b. rw (here i) (sym (cell-at P (coordinate P l centre before) i axis b))) e
 
 -- S OF AN AXIS: its sums, finished
 

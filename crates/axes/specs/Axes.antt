@@ -1,27 +1,13 @@
--- What the coefficients need of an axis: a coordinate in the cell, S and S' there, and finite coordinates to begin with.
+-- What the coefficients need of an axis: S and S' at a reference coordinate.
 use mathlib.Core.Path.{_≡_}
 use mathlib.Core.Bool.{Bool}
 use mathlib.Core.List.{List}
 use Prim.Native.Nat.{ℕ, _*_, _/_, _%_, _≤_}
-use lib.Ieee.{Float, nan}
-use lib.Ieee.Scale.{finite}
-use lib.ListN.{length, getD}
-use Rattle.common.specs.Floats.{minus, times, over, one₆₄, two₆₄, half₆₄, float, inner}
-use Rattle.common.specs.Tests.{each}
+use lib.Ieee.{Float}
+use Rattle.common.specs.Floats.{minus, times, over, one₆₄, two₆₄, float, inner}
 use Rattle.common.specs.Matrices.{matrix}
 use Rattle.common.specs.Refusals.{Shape, mostPoints, sizeIf}
 use Rattle.chebyshev.specs.Polynomials.{T, T′}
-
-unfoldable pub allFinite : List Float → Bool
-allFinite list = each (length list) (λ i. finite (getD list i nan))
-
--- a physical coordinate in a cell becomes a reference coordinate: (point - centre)/(side*0.5)
-unfoldable pub coordinateIn : (side centre point : Float) → Float
-coordinateIn side centre point = over (minus point centre) (times side half₆₄)
-
--- the reference coordinate of point i on axis a
-abbrev pub coordinate : (rows : ℕ) → (side : Float) → (centre points : List Float) → (i a : ℕ) → Float
-coordinate P side centre points i a = coordinateIn side (getD centre a nan) (matrix P points i a)
 
 -- S of a sum: (sum*2 - 1)/p; and S': (sum*(2/p))*(2/side)
 unfoldable pub factorOf : (p : ℕ) → (sum : Float) → Float

@@ -6,12 +6,12 @@ use Prim.Native.Nat.{ℕ}
 use lib.Ieee.{Float}
 use lib.IntN.{ℤ}
 use Rattle.common.proofs.Determined.{coincide}
-use Rattle.turn.specs.declared.Vector.{Vector}
+use Rattle.vectors.specs.declared.Vector.{Vector}
 use Rattle.turn.specs.Turned.{turned, returned}
 use Rattle.turn.specs.Tables.{tableCall}
 use Rattle.nodes.specs.Nodes.{nodesCall}
 use Rattle.chebyshev.specs.Polynomials.{polynomialsCall}
-use Rattle.transfer.specs.Operators.{operatorsCall}
+use Rattle.operators.specs.Operators.{operatorsCall}
 use Rattle.transfer.specs.Tensor.{transferCall}
 use Rattle.points.specs.Points.{targetCall, sourceCall}
 use Rattle.coefficients.specs.Coefficients as coefficients

@@ -6,14 +6,14 @@ use mir.Syntax.{w32}
 use mir.Val.{toZ, ofZ, SFits}
 use mir.Facts.{toZ-ofZ}
 use Rattle.common.proofs.Answers.{refused-by, done-by}
-use Rattle.turn.specs.declared.Vector.{Vector}
-use Rattle.turn.specs.declared.Known.{Known}
-use Rattle.turn.specs.declared.LookUp.{LookUp}
-use Rattle.turn.specs.declared.LookUp.the-variants as look
-use Rattle.turn.specs.declared.Reference.{Reference}
-use Rattle.turn.specs.declared.Reference.the-variants as refer
-use Rattle.turn.specs.Vectors.{sizes}
-use Rattle.turn.specs.LookUps.{entries, lookUpNumber, knownOf, toldLookUp, lookUp, referenceNumber, referenceAt, toldReference, referenceCall}
+use Rattle.vectors.specs.declared.Vector.{Vector}
+use Rattle.vectors.specs.declared.Known.{Known}
+use Rattle.vectors.specs.declared.LookUp.{LookUp}
+use Rattle.vectors.specs.declared.LookUp.the-variants as look
+use Rattle.vectors.specs.declared.Reference.{Reference}
+use Rattle.vectors.specs.declared.Reference.the-variants as refer
+use Rattle.vectors.specs.Vectors.{sizes}
+use Rattle.vectors.specs.LookUps.{entries, lookUpNumber, knownOf, toldLookUp, lookUp, referenceNumber, referenceAt, toldReference, referenceCall}
 
 -- LOOKING UP
 

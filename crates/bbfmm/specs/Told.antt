@@ -7,10 +7,10 @@ use lib.Ieee.{Float}
 use lib.IntN.{ℤ}
 use lib.ListN.{length}
 use Rattle.common.specs.Refusals.{left}
-use Rattle.turn.specs.declared.Vector.{Vector}
-use Rattle.turn.specs.declared.Known.{Known}
-use Rattle.turn.specs.Vectors.{sizes}
-use Rattle.turn.specs.LookUps.{entries, lookUpNumber, knownOf, referenceNumber, referenceAt}
+use Rattle.vectors.specs.declared.Vector.{Vector}
+use Rattle.vectors.specs.declared.Known.{Known}
+use Rattle.vectors.specs.Vectors.{sizes}
+use Rattle.vectors.specs.LookUps.{entries, lookUpNumber, knownOf, referenceNumber, referenceAt}
 use Rattle.aca_lines.specs.Largest.{argmax, counts}
 use Rattle.choices.specs.Argmax.{argmaxNumber}
 use Rattle.choices.specs.Cutoff.{cutoff, cutoffNumber}

@@ -1,9 +1,9 @@
 // The operators between a block and its children, and the tensor transfer.
 ghost use mathlib.Core.Path.{_≡_};
-ghost use Rattle.transfer.specs.Operators.{operatorsCall};
+ghost use Rattle.operators.specs.Operators.{operatorsCall};
 ghost use Rattle.transfer.specs.Tensor.{transferCall};
+use operators::get_m2m_transfer_operators;
 use transfer::apply_cheb_tensor_transfer;
-use transfer::get_m2m_transfer_operators;
 
 // The operators of the lower and of the upper child.
 #[no_mangle]

@@ -9,7 +9,7 @@ use borrow.Author.Tests.{eqb-true, leb-true, le-leb, lt-leb}
 use Rattle.common.specs.Refusals.{sizeIf, isCell, Shape, mostPoints, shapeNumber}
 use Rattle.common.proofs.Cases.{equal-and}
 use Rattle.common.proofs.Limits.{shape-out, shape-past, call-refused, call-done, passed, shape-passed}
-use Rattle.axes.specs.Axes.{allFinite, coordinate}
+use Rattle.coordinates.specs.Coordinates.{allFinite, coordinate}
 use Rattle.coefficients.specs.Coefficients.{lengths, lengthsFit, coefficientsNumber, Memory, leaves, coefficientsCall}
 use Rattle.coefficients.specs.Working.{Admitted}
 use Rattle.coefficients.specs.declared.Lengths.{Lengths}

@@ -10,7 +10,8 @@ use Rattle.common.specs.Floats.{times, one₆₄}
 use Rattle.common.specs.Matrices.{columnMajor}
 use Rattle.common.specs.Refusals.{noDimension, noOrder, noCount, wrongLength, noCell, notFinite}
 use Rattle.common.specs.Refusals.{sizeIf, unless, isDimension, isOrder, isCell, mostPoints, left}
-use Rattle.axes.specs.Axes.{allFinite, coordinate, S, S′, onAxes}
+use Rattle.coordinates.specs.Coordinates.{allFinite, coordinate}
+use Rattle.axes.specs.Axes.{S, S′, onAxes}
 use Rattle.coefficients.specs.declared.Lengths.{Lengths}
 
 -- 1 times f 0, times f 1, .. times f (n - 1)

@@ -1,6 +1,6 @@
 // The call for approximation coefficients.
 ghost use mathlib.Core.Path.{_≡_};
-ghost use Rattle.axes.specs.Axes.{coordinate};
+ghost use Rattle.coordinates.specs.Coordinates.{coordinate};
 ghost use Rattle.coefficients.specs.Coefficients.{lengths, leaves, coefficientsCall};
 ghost use Rattle.coefficients.specs.Working.{Admitted};
 use crate::Lengths;
@@ -9,7 +9,7 @@ use crate::columns::fill_started;
 use crate::limits::coefficients_number;
 use axes::Cell;
 use axes::fill_axes;
-use axes::scale_points;
+use coordinates::scale_points;
 
 fn fill_coefficients(
     cell: Cell,

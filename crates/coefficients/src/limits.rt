@@ -5,7 +5,7 @@ ghost use Rattle.common.specs.Refusals.{Shape, mostPoints};
 ghost use Rattle.coefficients.specs.Coefficients.{lengthsFit, coefficientsNumber};
 use crate::Lengths;
 use axes::Cell;
-use axes::all_finite;
+use coordinates::all_finite;
 
 fn lengths_fit(
     dimension: usize,

@@ -7,11 +7,12 @@ use Rattle.common.specs.Floats.{size, sums}
 use Rattle.common.specs.Matrices.{columnMajor}
 use Rattle.common.specs.Refusals.{left}
 use Rattle.common.specs.Tests.{each, those, count}
-use Rattle.turn.specs.Order.{factorial, skip, unskip, axis, place, largest, axisOrder, sorted}
-use Rattle.turn.specs.Vectors.{index, case, atMost, near, isReference, references, entry, farReference, referenceOf}
+use Rattle.common.specs.Factorials.{factorial}
+use Rattle.vectors.specs.Order.{skip, unskip, axis, place, largest, axisOrder, sorted}
+use Rattle.vectors.specs.Vectors.{index, case, atMost, near, isReference, references, entry, farReference, referenceOf}
 use Rattle.turn.specs.Turned.{reversed, negative, axisOf, placeOf, turnedIndex, turned, returnedIndex, returned}
 use Rattle.turn.specs.Tables.{tableNumber, tableCall}
-use Rattle.turn.specs.LookUps.{lookUpNumber, knownOf, lookUp}
+use Rattle.vectors.specs.LookUps.{lookUpNumber, knownOf, lookUp}
 use Rattle.chebyshev.specs.Polynomials.{T, T′, polynomialsNumber, polynomialsCall}
 use Rattle.transfer.specs.Tensor.{passed, directed, operatorHalf, along, ends, transferNumber, transferred, transferCall}
 use Rattle.aca_lines.specs.Largest.{best, argmax, pivot, counts}

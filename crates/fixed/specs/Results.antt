@@ -7,10 +7,10 @@ use mathlib.Core.Option.{some}
 use lib.IntN.{pos, negsuc}
 use lib.Ieee.{Float, neg, ofBits, binary64}
 use Rattle.common.specs.Floats.{float, zero₆₄, one₆₄, two₆₄, half₆₄}
-use Rattle.turn.specs.LookUps.{toldLookUp, lookUp}
+use Rattle.vectors.specs.LookUps.{toldLookUp, lookUp}
 use Rattle.turn.specs.Tables.{tableCall}
 use Rattle.turn.specs.Turned.{turned, returned}
-use Rattle.turn.specs.declared.LookUp.the-variants as look
+use Rattle.vectors.specs.declared.LookUp.the-variants as look
 use Rattle.chebyshev.specs.Polynomials.{polynomialsCall}
 use Rattle.transfer.specs.Tensor.{transferCall}
 use Rattle.choices.specs.Argmax.{argmaxCall}

@@ -7,7 +7,7 @@ ghost use Rattle.common.specs.Lists.{stretch};
 ghost use Rattle.points.specs.Points.{pointsOf};
 ghost use Rattle.points.specs.Working.{offset, onAxis, blockPoint, Fitting};
 use crate::columns::fill_column;
-use turn::Vector;
+use vectors::Vector;
 
 // How many blocks away on an axis: whole and small, so the cast is exact.
 fn offset_on(vector: Vector, axis: usize) -> f64

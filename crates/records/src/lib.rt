@@ -4,12 +4,12 @@ ghost use mathlib.Core.Path.{_≡_};
 ghost use lib.Dec.{leb};
 ghost use lib.ListN.{length};
 ghost use Rattle.text.specs.Text.{put as Text·put};
-ghost use Rattle.turn.specs.LookUps.{toldLookUp};
+ghost use Rattle.vectors.specs.LookUps.{toldLookUp};
 ghost use Rattle.records.specs.Text.{counted, knownLine, line, recordLine, toldAnswer, answerCall};
 ghost use Rattle.records.specs.Text.{signed as Text·signed, text as Text·text};
-use turn::Known;
-use turn::LookUp;
-use turn::Vector;
+use vectors::Known;
+use vectors::LookUp;
+use vectors::Vector;
 
 // How many bytes were written, or the number of a refusal.
 pub enum Answered {
@@ -86,7 +86,7 @@ fn put_records(output: &mut [u8], input: &[u8]) -> usize
 fn put_record(output: &mut [u8], to: usize, dimension: u8, x: u8, y: u8, z: u8) -> usize
     ensures { λ r. ⌜ (r, now (output .exit)) ≡ Text·put to (recordLine dimension x y z) (now (output .entry)) ⌝ }
 {
-    let found = turn::look_up(dimension as usize, Vector(signed(x), signed(y), signed(z)));
+    let found = vectors::look_up(dimension as usize, Vector(signed(x), signed(y), signed(z)));
     put_line(output, to, found)
 }
 

@@ -1,4 +1,4 @@
--- What the two calls' numbers say, and what the calls then answer and leave. Assumes nothing.
+-- What the call's number says, and what the call then answers and leaves. Assumes nothing.
 use mathlib.Core.Path.{_≡_, sym, ap, _∙_}
 use mathlib.Core.Bool.{Bool, true, false, cond, _&&_}
 use mathlib.Core.List.{List}
@@ -8,64 +8,11 @@ use lib.Ieee.{Float, nan}
 use lib.ListN.{length, getD}
 use borrow.Author.Tests.{eqb-true, lt-ltb, le-ltb, eq-eqb, ne-eqb}
 use Rattle.common.specs.Lists.{stretch}
-use Rattle.common.specs.Matrices.{columnMajor}
-use Rattle.common.specs.Refusals.{Shape, orderNumber, shapeNumber}
+use Rattle.common.specs.Refusals.{Shape, shapeNumber}
 use Rattle.common.proofs.Cases.{equal-and}
-use Rattle.common.proofs.Limits.{order-in, order-out, shape-in, shape-out, call-refused, call-done, call-refused₂, call-done₂, passed, order-passed, shape-passed}
-use Rattle.transfer.specs.Operators.{operator, operatorsNumber, operatorsCall}
+use Rattle.common.proofs.Limits.{shape-in, shape-out, call-refused₂, call-done₂, passed, shape-passed}
 use Rattle.transfer.specs.Tensor.{along, ends, transferNumber, transferred, transferCall}
 use Rattle.transfer.proofs.Passes.{copied}
-
--- THE OPERATORS
-
--- the lengths are as stated
-pub record Lengths (p n t o : ℕ) : Type 0 where
-  pub order-least : 1 ≤ p
-  pub order-most : p ≤ 16
-  pub nodes : n ≡ p
-  pub polynomials : t ≡ p * p
-  pub operators : o ≡ (p + p) * p
-
-module _ (p n t o : ℕ) where
-  pub operators-order : (orderNumber p ≡ 0 → ⊥) → orderNumber p ≡ operatorsNumber p n t o
-  unfolding operatorsNumber
-  operators-order h = order-out p h .1 ∙ rw (order-out p h .0)
-
-  module _ (ok : orderNumber p ≡ 0) where
-    pub operators-nodes : (n ≡ p → ⊥) → 7 ≡ operatorsNumber p n t o
-    unfolding operatorsNumber
-    operators-nodes h = rw (order-in p ok, ne-eqb n p h)
-
-    pub operators-polynomials : n ≡ p → (t ≡ p * p → ⊥) → 7 ≡ operatorsNumber p n t o
-    unfolding operatorsNumber
-    operators-polynomials e h = rw (order-in p ok, eq-eqb n p e, ne-eqb t (p * p) h)
-
-    pub operators-length : n ≡ p → t ≡ p * p → (o ≡ (p + p) * p → ⊥) → 7 ≡ operatorsNumber p n t o
-    unfolding operatorsNumber
-    operators-length e e' h = rw (order-in p ok, eq-eqb n p e, eq-eqb t (p * p) e', ne-eqb o ((p + p) * p) h)
-
-    pub operators-none : n ≡ p → t ≡ p * p → o ≡ (p + p) * p → 0 ≡ operatorsNumber p n t o
-    unfolding operatorsNumber
-    operators-none e e' e'' = rw (order-in p ok, eq-eqb n p e, eq-eqb t (p * p) e', eq-eqb o ((p + p) * p) e'')
-
-  pub operators-accepted : operatorsNumber p n t o ≡ 0 → Lengths p n t o
-  unfolding operatorsNumber
-  operators-accepted z =
-      let order = order-passed p _ z in
-      let a = equal-and n p _ (passed _ 6 0 (order .2) .0) in
-      let b = equal-and t (p * p) _ (a .1) in
-      record { order-least = order .0; order-most = order .1; nodes = a .0; polynomials = b .0; operators = eqb-true _ _ (b .1) }
-
-module _ (p : ℕ) (n t o : List Float) (r : ℕ) (e : r ≡ operatorsNumber p (length n) (length t) (length o)) where
-  pub operators-refused : (r ≡ 0 → ⊥) → (r, o) ≡ operatorsCall p n t o
-  unfolding operatorsCall
-  operators-refused = call-refused r _ (columnMajor p (p + p) (operator p n t)) o e
-
-  pub operators-done : (o' : List Float) → r ≡ 0 → o' ≡ columnMajor p (p + p) (operator p n t) → (0, o') ≡ operatorsCall p n t o
-  unfolding operatorsCall
-  operators-done = call-done r _ (columnMajor p (p + p) (operator p n t)) o e
-
--- THE TENSOR TRANSFER
 
 pub record Accepted (D p child i o f s : ℕ) : Type 0 where
   pub shape : Shape D p

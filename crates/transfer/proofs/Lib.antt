@@ -1,4 +1,3 @@
-pub mod Columns
 pub mod Calls
 pub mod Passes
 pub mod Determined

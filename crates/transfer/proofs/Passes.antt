@@ -24,21 +24,21 @@ use Rattle.transfer.specs.Working.{StripOf, added, summed}
 
 -- THE BLOCK of the operators: the lower starts at 0, and the upper past p columns of p entries
 
-block-start : (side q : ℕ) → side < 2 → side * q ≤ q
+block-start : (half q : ℕ) → half < 2 → half * q ≤ q
 block-start zero q h = let e : 0 * q ≡ 0 = zero-mul q in omega arith
 block-start (suc zero) q h = let e : 1 * q ≡ q = one-mul q in omega arith
-block-start (suc (suc side)) q h = absurd (omega arith)
+block-start (suc (suc half)) q h = absurd (omega arith)
 
-module _ (p side : ℕ) (l : List Float) (two : side < 2) (e : length l ≡ (p + p) * p) where
-  pub block-fits : side * (p * p) + p * p ≤ length l
-  block-fits = let h = block-start side (p * p) two in let both : (p + p) * p ≡ p * p + p * p = add-mul p p p in omega arith
+module _ (p half : ℕ) (l : List Float) (two : half < 2) (e : length l ≡ (p + p) * p) where
+  pub block-fits : half * (p * p) + p * p ≤ length l
+  block-fits = let h = block-start half (p * p) two in let both : (p + p) * p ≡ p * p + p * p = add-mul p p p in omega arith
 
   -- its entries, in the part that is handed on
-  pub block-entry : (end r s : ℕ) → end ≡ side * (p * p) + p * p → r < p → s < p →
-      matrix p (take (end - side * (p * p)) (drop (side * (p * p)) l)) r s ≡ matrix p l r (side * p + s)
+  pub block-entry : (end r s : ℕ) → end ≡ half * (p * p) + p * p → r < p → s < p →
+      matrix p (take (end - half * (p * p)) (drop (half * (p * p)) l)) r s ≡ matrix p l r (half * p + s)
   block-entry end r s h b b' =
-      let place : side * (p * p) + (s * p + r) ≡ (side * p + s) * p + r = rw (add-mul, mul-assoc) (omega arith) in
-      part-read (side * (p * p)) end (p * p) l (s * p + r) nan h (digits-lt b' b) ∙ ap (λ (k : ℕ). getD l k nan) place
+      let place : half * (p * p) + (s * p + r) ≡ (half * p + s) * p + r = rw (add-mul, mul-assoc) (omega arith) in
+      part-read (half * (p * p)) end (p * p) l (s * p + r) nan h (digits-lt b' b) ∙ ap (λ (k : ℕ). getD l k nan) place
 
 -- A PASS takes a few rows of the operator at a time
 
@@ -131,15 +131,15 @@ directed-cong true o o' p same r s b b' = same s r b' b
 directed-cong false o o' p same r s b b' = same r s b b'
 
 -- the pass along an axis, over the part of the operators that is handed on
-pub along-block : (p width child axis side end : ℕ) (transpose : Bool) (operators values : List Float) → side ≡ child / 2 ^ axis % 2 →
-    end ≡ side * (p * p) + p * p → length operators ≡ (p + p) * p →
-    passed p width (matrix p values) (directed transpose (matrix p (take (end - side * (p * p)) (drop (side * (p * p)) operators)))) ≡
+pub along-block : (p width child axis half end : ℕ) (transpose : Bool) (operators values : List Float) → half ≡ child / 2 ^ axis % 2 →
+    end ≡ half * (p * p) + p * p → length operators ≡ (p + p) * p →
+    passed p width (matrix p values) (directed transpose (matrix p (take (end - half * (p * p)) (drop (half * (p * p)) operators)))) ≡
     along p width child transpose operators axis values
 unfolding along operatorHalf
-along-block p width child axis side end transpose operators values e e' long =
-    let two : side < 2 = rw e (mod-lt (child / 2 ^ axis) (omega arith)) in
+along-block p width child axis half end transpose operators values e e' long =
+    let two : half < 2 = rw e (mod-lt (child / 2 ^ axis) (omega arith)) in
     passed-cong p width (matrix p values) _ _
-    (directed-cong transpose _ _ p (λ r s b b'. block-entry p side operators two long end r s e' b b'
+    (directed-cong transpose _ _ p (λ r s b b'. block-entry p half operators two long end r s e' b b'
     ∙ ap (λ (n : ℕ). matrix p operators r (n * p + s)) e))
 
 -- THE BUFFERS after the passes of one, two and three axes, each of width w

@@ -1,3 +1,2 @@
-pub mod Operators
 pub mod Tensor
 pub mod Working

@@ -4,16 +4,8 @@ use mathlib.Core.List.{List}
 use Prim.Native.Nat.{ℕ, _+_, _*_, _<_}
 use lib.Ieee.{Float, nan}
 use lib.ListN.{length, getD}
-use Rattle.common.specs.Floats.{plus, times, inner, sums}
+use Rattle.common.specs.Floats.{plus, times, inner}
 use Rattle.common.specs.Matrices.{matrix}
-use Rattle.chebyshev.specs.Polynomials.{T}
-
--- term s of row i, for a child node x; and the sum of the row's first k terms
-abbrev pub termOf : (p : ℕ) → (polynomials : List Float) → (x : Float) → (i s : ℕ) → Float
-termOf p polynomials x i s = times (matrix p polynomials i s) (T s x)
-
-abbrev pub partOf : (p : ℕ) → (polynomials : List Float) → (x : Float) → (k i : ℕ) → Float
-partOf p polynomials x k i = sums k (termOf p polynomials x i)
 
 -- so many entries, from a place on and in steps, lie in a list of this length
 abbrev pub Spaced : (count from step long : ℕ) → Type 0

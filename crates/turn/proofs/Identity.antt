@@ -9,10 +9,10 @@ use borrow.Author.Tests.{le-ltb, eq-eqb, ne-eqb}
 use Rattle.common.specs.Digits.{fromDigits, digit}
 use Rattle.common.proofs.Cases.{by-eq}
 use Rattle.common.proofs.Digits.{digit-fromDigits, fromDigits-below}
-use Rattle.turn.specs.Order.{place, axisOrder}
-use Rattle.turn.specs.Vectors.{sizes}
+use Rattle.vectors.specs.Order.{place, axisOrder}
+use Rattle.vectors.specs.Vectors.{sizes}
 use Rattle.turn.specs.Turns.{Mirrored, distance, matching, Turns}
-use Rattle.turn.proofs.Orders.{axisOrder-below, place-below, axis-place}
+use Rattle.vectors.proofs.Orders.{axisOrder-below, place-below, axis-place}
 use Rattle.turn.proofs.Right.{natAbs-neg, distance-neg}
 
 -- the first node at -1, the last at 1, and all others at 0

@@ -13,22 +13,15 @@ use Rattle.common.proofs.Cases.{inside}
 use Rattle.common.proofs.Fill.{getD-tabulate}
 use Rattle.common.proofs.Limits.{call-done}
 use Rattle.common.proofs.Tests.{each-of}
-use Rattle.turn.specs.declared.Vector.{Vector}
-use Rattle.turn.specs.Vectors.{sizes, atMost, case, references, entry, reference}
+use Rattle.vectors.specs.declared.Vector.{Vector}
+use Rattle.vectors.specs.Vectors.{sizes, atMost, case, references, entry, reference}
 use Rattle.turn.specs.Turned.{turned, returned}
 use Rattle.turn.specs.Tables.{cases, tableNumber, tableCall}
-use Rattle.turn.specs.LookUps.{entries, lookUp, lookUpNumber, knownOf, referenceCall, referenceNumber, referenceAt}
+use Rattle.vectors.specs.LookUps.{entries, lookUp, lookUpNumber, knownOf, referenceCall, referenceNumber, referenceAt}
 use Rattle.turn.specs.TurnCalls.{FarVector, CallsAreRight}
+use Rattle.vectors.proofs.Listed.{reference-there}
 use Rattle.turn.proofs.References.{reference-below}
 use Rattle.turn.proofs.Right.{case-below, right-alike}
-
--- the entries of a reference vector
-pub reference-there : (D i m : ℕ) → D ≤ 3 → m < D → entries (referenceAt D i) m ≡ pos (entry D i m)
-unfolding referenceAt
-reference-there D i zero h l = rw (lt-ltb 0 D l)
-reference-there D i (suc zero) h l = rw (lt-ltb 1 D l)
-reference-there D i (suc (suc zero)) h l = rw (lt-ltb 2 D l)
-reference-there D i (suc (suc (suc m))) h l = absurd (omega arith)
 
 -- THE NUMBERS: each call gives 0
 

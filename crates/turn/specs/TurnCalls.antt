@@ -4,15 +4,15 @@ use mathlib.Core.List.{List}
 use Prim.Native.Nat.{ℕ, _^_, _≤_}
 use lib.IntN.{ℤ, pos}
 use lib.ListN.{length, getD}
-use Rattle.turn.specs.declared.Known.{Known}
-use Rattle.turn.specs.declared.Vector.{Vector}
-use Rattle.turn.specs.declared.LookUp.the-variants as look
-use Rattle.turn.specs.declared.Reference.the-variants as refer
-use Rattle.turn.specs.Vectors.{sizes}
+use Rattle.vectors.specs.declared.Known.{Known}
+use Rattle.vectors.specs.declared.Vector.{Vector}
+use Rattle.vectors.specs.declared.LookUp.the-variants as look
+use Rattle.vectors.specs.declared.Reference.the-variants as refer
+use Rattle.vectors.specs.Vectors.{sizes}
 use Rattle.turn.specs.Turned.{turned, returned}
 use Rattle.turn.specs.Turns.{Far, TurnIsRight}
 use Rattle.turn.specs.Tables.{tableCall}
-use Rattle.turn.specs.LookUps.{entries, toldLookUp, lookUp, toldReference, referenceCall}
+use Rattle.vectors.specs.LookUps.{entries, toldLookUp, lookUp, toldReference, referenceCall}
 
 -- a far vector as the calls take it: its entries past the dimension are 0
 pub record FarVector (D : ℕ) (v : Vector) : Type 0 where

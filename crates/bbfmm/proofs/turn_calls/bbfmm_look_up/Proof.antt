@@ -6,7 +6,7 @@ use mathlib.Core.Bool.{Bool, true, false, cond}
 use native.Mathlib.Omega.{arith}
 use lib.ListN.{length, length-set}
 use mir.Val.{boolByte}
-use Rattle.turn.specs.LookUps.{toldLookUp, lookUp}
+use Rattle.vectors.specs.LookUps.{toldLookUp, lookUp}
 use Rattle.bbfmm.specs.Told.{lookUpTold}
 use Rattle.bbfmm.proofs.Lengths.{written-refused, written-unfit, written-done, stored-four}
 use Rattle.bbfmm.proofs.Numbers.{look-held, look-refused, look-found}

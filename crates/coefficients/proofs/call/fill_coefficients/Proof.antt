@@ -4,7 +4,7 @@ use mathlib.Core.Path.{_∙_}
 use Prim.Native.Nat.{_*_, _^_}
 use native.Mathlib.Omega.{arith}
 use Rattle.axes.proofs.Stretches.{wanted-fits}
-use Rattle.axes.specs.Axes.{coordinate}
+use Rattle.coordinates.specs.Coordinates.{coordinate}
 use Rattle.coefficients.proofs.Stretches.{axis-side, nodes-side}
 use Rattle.coefficients.proofs.Result.{memory-right}
 use Rattle.coefficients.proofs.call.fill_coefficients.Statement.{statement}

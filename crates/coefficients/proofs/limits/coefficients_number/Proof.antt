@@ -5,7 +5,7 @@ use mathlib.Core.Bool.{true, false}
 use Rattle.common.specs.Refusals.{Shape, isCell}
 use Rattle.common.proofs.Cases.{of-not}
 use Rattle.common.proofs.Limits.{shape-taken}
-use Rattle.axes.specs.Axes.{allFinite}
+use Rattle.coordinates.specs.Coordinates.{allFinite}
 use Rattle.coefficients.specs.Coefficients.{lengthsFit}
 use Rattle.coefficients.proofs.Calls.{number-shape, number-count, number-length, number-cell, number-points, number-centre, number-none}
 use Rattle.coefficients.proofs.limits.coefficients_number.Statement.{statement}

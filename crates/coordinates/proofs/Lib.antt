@@ -1,0 +1,3 @@
+pub mod Finite
+pub mod Steps
+pub mod Determined

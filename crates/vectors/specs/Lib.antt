@@ -1,0 +1,4 @@
+pub mod Order
+pub mod Vectors
+pub mod LookUps
+pub mod Working

@@ -43,7 +43,8 @@ enum {
     BBFMM_WRONG_LENGTH = 7, /* a buffer has not its length */
     BBFMM_NO_CELL = 8,      /* a cell's length is not from 2^-20 to 2^30 */
     BBFMM_NOT_FINITE = 9,   /* a coordinate of a point or of the centre is not finite */
-    BBFMM_NO_MASK = 10      /* a byte of a mask is not 0 or 1 */
+    BBFMM_NO_MASK = 10,     /* a byte of a mask is not 0 or 1 */
+    BBFMM_OUT_OF_CELL = 11  /* a reference coordinate of a point is above 1 + 2^-20 in size */
 };
 
 /* Why a cross approximation ended. */
@@ -161,12 +162,13 @@ uint8_t bbfmm_generate_chebyshev_source_points(
  * how that changes along each axis.
  * centre: D entries.
  * node_polynomials: p by p. Column k has T_k at the nodes.
- * points: P by D, a row a point. They become reference coordinates, from -1 to 1 in the cell.
+ * points: P by D, a row a point. They become reference coordinates, (point - centre) / (length * 0.5), from -1 to 1 in the cell.
+ * A point with one above 1 + 2^-20 in size does not belong to the cell.
  * values: P by N. Column n becomes what node n counts for.
  * gradients: P by D * N with gradients, else 0 entries. Column g * N + n becomes the slope of that along axis g.
  * factors: P by D * p, room to work in. Column a * p + n becomes the share of index n on axis a.
  * slopes: P by D * p with gradients, else 0 entries, room to work in. Column a * p + n becomes the slope of that share.
- * Refuses with 1, 2, 3, 7, 8, 9.
+ * Refuses with 1, 2, 3, 7, 8, 9, 11.
  */
 uint8_t bbfmm_get_approximation_coefficients(
     size_t dimension, size_t order, double length, size_t rows, bool with_gradients, const double *centre, size_t centre_length,

@@ -9,7 +9,7 @@ int memcmp(const void *left, const void *right, size_t bytes);
 void *malloc(size_t bytes);
 void *calloc(size_t count, size_t bytes);
 
-enum { CALLS = 18, SIZES = 3 };
+enum { CALLS = 20, SIZES = 3 };
 
 static const size_t DIMENSIONS[SIZES] = {1, 2, 3};
 static const size_t ORDERS[SIZES] = {2, 8, 16};
@@ -98,6 +98,18 @@ static void coefficients(bool ours, size_t size, bool with_gradients)
     (ours ? bbfmm_get_approximation_coefficients : plain_get_approximation_coefficients)(
                 d, p, 2, rows, with_gradients, centre, d, polynomials, p * p, given, d * rows, of_values, n, gradients,
             with_gradients ? d * n : 0, factors, axes, slopes, with_gradients ? axes : 0);
+}
+
+/* One node, and points of which the very last coordinate is at fault: not finite, or out of the cell. So one call makes every test
+   of the points but the last, and the other that too. */
+static void refused(bool ours, size_t size, double last)
+{
+    static const double centre[3] = {0, 0, 0};
+    size_t d = DIMENSIONS[size];
+    size_t rows = MANY_POINTS[size];
+    given[d * rows - 1] = last;
+    (ours ? bbfmm_get_approximation_coefficients : plain_get_approximation_coefficients)(
+                d, 1, 2, rows, false, centre, d, polynomials, 1, given, d * rows, written, rows, 0, 0, written, d * rows, 0, 0);
 }
 
 static void permutation(bool ours, size_t d, size_t p, size_t number, bool is_inverse, uint16_t *to)
@@ -205,8 +217,10 @@ static void once(bool ours, size_t call, size_t size)
     case 12: points(ours, size, true); break;
     case 13: coefficients(ours, size, false); break;
     case 14: coefficients(ours, size, true); break;
-    case 15: choose(ours, size, false); break;
-    case 16: choose(ours, size, true); break;
+    case 15: refused(ours, size, 1e308 * 10); break;
+    case 16: refused(ours, size, 2); break;
+    case 17: choose(ours, size, false); break;
+    case 18: choose(ours, size, true); break;
     default: cross(ours, size); break;
     }
 }

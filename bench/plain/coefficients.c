@@ -85,6 +85,18 @@ static bool are_finite(const double *list, size_t count)
     return are;
 }
 
+/* Whether the points are in the cell on one axis: at most 1 + 2^-20 halves of the side from the centre. */
+static bool are_in_cell(const double *x, size_t rows, double side, double centre)
+{
+    const double border = 1 + 1.0 / 1048576;
+    bool are = true;
+    for (size_t i = 0; i < rows; i++) {
+        double at = (x[i] - centre) / (side * 0.5);
+        are &= (-border <= at) & (at <= border);
+    }
+    return are;
+}
+
 uint8_t plain_get_approximation_coefficients(
     size_t dimension, size_t order, double side, size_t rows, bool with_gradients, const double *restrict centre,
     size_t centre_length, const double *restrict node_polynomials, size_t node_polynomials_length, double *restrict points,
@@ -109,6 +121,11 @@ uint8_t plain_get_approximation_coefficients(
     }
     if (!are_finite(points, points_length) || !are_finite(centre, centre_length)) {
         return BBFMM_NOT_FINITE;
+    }
+    for (size_t axis = 0; axis < dimension; axis++) {
+        if (!are_in_cell(points + axis * rows, rows, side, centre[axis])) {
+            return BBFMM_OUT_OF_CELL;
+        }
     }
     for (size_t axis = 0; axis < dimension; axis++) {
         double *x = points + axis * rows;

@@ -23,7 +23,7 @@ pub const SHAPES: [(usize, usize); SIZES] = [(1, 2), (2, 8), (3, 16)];
 
 pub type Make = fn(usize) -> Measure;
 
-pub const CALLS: [(&str, Make); 18] = [
+pub const CALLS: [(&str, Make); 20] = [
     ("generate_chebyshev_nodes", polynomials::nodes),
     ("evaluate_chebyshev_polynomials", polynomials::values),
     ("evaluate_chebyshev_polynomials, with derivatives", polynomials::derivatives),
@@ -39,6 +39,8 @@ pub const CALLS: [(&str, Make); 18] = [
     ("generate_chebyshev_source_points", blocks::source_points),
     ("get_approximation_coefficients", cells::values),
     ("get_approximation_coefficients, with gradients", cells::gradients),
+    ("get_approximation_coefficients, refused with 9 at the last coordinate", cells::not_finite),
+    ("get_approximation_coefficients, refused with 11 at the last coordinate", cells::out_of_cell),
     ("argmax_masked", choices::argmax),
     ("calculate_singular_values_cutoff", choices::cutoff),
     ("aca_partial_pivoting", choices::cross),

@@ -26,6 +26,29 @@ struct Shape {
     length: f64,
 }
 
+/// Brings each coordinate that does not belong to the cell to its middle, or to the border.
+///
+/// The library refuses a point whose reference coordinate is above 1 + 2^-20 in size, where the text
+/// goes on.
+pub fn bring_in(length: f64, centre: &[f64], points: &mut [f64]) {
+    let rows = (points.len() / centre.len()).max(1);
+    let half = length * 0.5;
+    let border = 1.0 + SHORTEST;
+    let size = |point: f64, middle: f64| ((point - middle) / half).abs();
+    for (column, middle) in points.chunks_mut(rows).zip(centre) {
+        for point in column {
+            let nearest = middle + border.copysign(*point - middle) * half;
+            if size(*point, *middle) > border {
+                *point = if size(nearest, *middle) > border {
+                    *middle
+                } else {
+                    nearest
+                };
+            }
+        }
+    }
+}
+
 /// Adds the case of a cell, and answers what the text does.
 pub fn ask(stream: &mut Stream, cell: &Cell) -> Coefficients {
     let (dimension, order, rows) = (cell.dimension, cell.order, cell.rows());

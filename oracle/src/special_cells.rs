@@ -1,6 +1,6 @@
 //! Builds the cells of special floats, among those that ask for coefficients.
 
-use crate::coefficients::{LONGEST, SHORTEST, ask};
+use crate::coefficients::{LONGEST, SHORTEST, ask, bring_in};
 use crate::floats::Stream;
 use crate::operators::{special_rows, true_nodes};
 use oracle::chebyshev::reach::Cell;
@@ -30,7 +30,8 @@ const COORDINATES: [f64; 14] = [
 /// Zeros of both signs, a subnormal, a huge float, infinities and a NaN in place of a polynomial.
 const POLYNOMIALS: [f64; 7] = [0.0, -0.0, LEAST, f64::MAX, INFINITY, -INFINITY, f64::NAN];
 
-/// The special coordinates on every axis, each axis from another start, about special centres.
+/// The special coordinates on every axis, each axis from another start, about special centres. Those
+/// out of the cell are brought into it.
 fn points(stream: &mut Stream) {
     let centres = [
         [0.0, -0.0, 0.0],
@@ -39,13 +40,15 @@ fn points(stream: &mut Stream) {
     ];
     for dimension in 1..=3 {
         for centre in centres {
-            // Order 1 has no T1, and order 2 no recurrence. A short cell makes infinities.
+            // Order 1 has no T1, and order 2 no recurrence. A long cell holds more of the coordinates.
             for (order, length) in [(1, 3.7), (2, SHORTEST), (3, LONGEST), (5, SHORTEST)] {
-                let points = (0..dimension).flat_map(|axis| {
+                let coordinates = (0..dimension).flat_map(|axis| {
                     let mut coordinates = COORDINATES;
                     coordinates.rotate_left(3 * axis);
                     coordinates
                 });
+                let mut points: Vec<f64> = coordinates.collect();
+                bring_in(length, &centre[..dimension], &mut points);
                 let cell = Cell {
                     dimension,
                     order,
@@ -53,7 +56,7 @@ fn points(stream: &mut Stream) {
                     length,
                     centre: centre[..dimension].to_vec(),
                     node_polynomials: true_nodes(order).1,
-                    points: points.collect(),
+                    points,
                 };
                 ask(stream, &cell);
             }

@@ -70,8 +70,70 @@ static void test_refusals(void)
     CHECK(HOLDS(points, &infinite) && all_kept());
 }
 
+/* The border of the cell on an axis, 1 + 2^-20 of half its length, and the coordinate one step of the last bit beyond it. */
+static const double BORDER = 1 + 1.0 / 1048576;
+static const double BEYOND = 1 + 1.0 / 1048576 + 1.0 / 4503599627370496;
+
+/* One point of a cell about 0, on one axis of three, the others in the middle; at most two nodes an axis. */
+static uint8_t placed(double length, size_t axis, double coordinate, double *three)
+{
+    static const double middle[3] = {0, 0, 0};
+    static double each[8], shares[6];
+    for (size_t a = 0; a < 3; a++) {
+        three[a] = a == axis ? coordinate * (length * 0.5) : 0;
+    }
+    return bbfmm_get_approximation_coefficients(
+        3, 2, length, 1, false, LEND(middle), LEND(POLYNOMIALS), three, 3, LEND(each), gradients, 0, LEND(shares), slopes, 0);
+}
+
+static void test_border(void)
+{
+    const double lengths[3] = {1.0 / 1048576, 1, 1073741824};
+    double three[3];
+    for (size_t k = 0; k < 3 * 3 * 2; k++) {
+        double length = lengths[k % 3];
+        size_t axis = k / 3 % 3;
+        double sign = k / 9 == 0 ? 1 : -1;
+        CHECK(placed(length, axis, sign * BORDER, three) == BBFMM_DONE && three[axis] == sign * BORDER);
+        CHECK(placed(length, axis, sign * BEYOND, three) == BBFMM_OUT_OF_CELL && three[axis] == sign * BEYOND * (length * 0.5));
+    }
+}
+
+/* Two points of a line about `centre`. Nothing may change where they are refused. */
+static uint8_t paired(double centre, double first, double second)
+{
+    double pair[2] = {first, second};
+    double each[4], shares[4];
+    FILL(each);
+    FILL(shares);
+    uint8_t number = bbfmm_get_approximation_coefficients(
+        1, 2, 4, 2, false, &centre, 1, LEND(POLYNOMIALS), LEND(pair), LEND(each), gradients, 0, LEND(shares), slopes, 0);
+    bool is_same = HOLDS(pair, ((double[]){first, second})) && KEPT(each) && KEPT(shares);
+    CHECK(number == BBFMM_DONE || is_same);
+    return number;
+}
+
+static void test_outside(void)
+{
+    const double none = 0;
+    CHECK(paired(1, -1, 3) == BBFMM_DONE);
+    CHECK(paired(1, 1, 6000) == BBFMM_OUT_OF_CELL);
+    CHECK(paired(1, -6000, 1) == BBFMM_OUT_OF_CELL);
+    /* What is not finite is told first, wherever the two points stand. */
+    CHECK(paired(1, none / none, 6000) == BBFMM_NOT_FINITE);
+    CHECK(paired(1, 6000, none / none) == BBFMM_NOT_FINITE);
+    /* A finite point whose difference from the centre overflows. */
+    CHECK(paired(-1e308, -1e308, 1e308) == BBFMM_OUT_OF_CELL);
+    /* No points are all in the cell. */
+    CHECK(bbfmm_get_approximation_coefficients(
+        1, 2, 4, 0, false, LEND(CENTRE), LEND(POLYNOMIALS), points, 0, values, 0, gradients, 0, factors, 0, slopes, 0)
+        == BBFMM_DONE);
+}
+
 void test_coefficients(void)
 {
     test_values();
     test_refusals();
+    test_border();
+    test_outside();
 }

@@ -2,6 +2,9 @@
    parameters are walked with all buffers alike, exact, short, long or empty; and the lengths, each for itself, with a few cells. */
 #include "walk.h"
 
+int memcmp(const void *left, const void *right, size_t bytes);
+void *memcpy(void *to, const void *from, size_t bytes);
+
 BUFFER(centre, double, 8, 7);
 BUFFER(polynomials, double, 300, 7);
 BUFFER(points, double, 4100, 7);
@@ -100,8 +103,70 @@ static Outcome get_approximation_coefficients(size_t k)
     return call(&t);
 }
 
+/* THE BORDER of the cell: one coordinate of three points lies 1 + 2^-20 halves of the side from the centre, or at the next float
+   on either side of that; the others lie at the centre, but for one that may be infinite or a NaN. */
+enum { POINTS = 3, BORDERS = 3 * 2 * 3 * 3 * POINTS * 2 * 3 * 3 };
+
+/* The float beside one that is not 0: the next larger in size, or the next smaller. */
+static double beside(double x, bool is_larger)
+{
+    uint64_t bits;
+    memcpy(&bits, &x, sizeof bits);
+    bits += is_larger ? 1 : (uint64_t)-1;
+    memcpy(&x, &bits, sizeof x);
+    return x;
+}
+
+static double bordering(size_t *k, double half)
+{
+    double sign = take(k, 2) == 0 ? 1 : -1;
+    double point = 7 + sign * half * (1 + 1.0 / 1048576);
+    size_t step = take(k, 3);
+    return step == 0 ? point : beside(point, step == 1);
+}
+
+/* Points that were taken are reference coordinates now; those that were refused are as they were lent. */
+static bool are_right(uint8_t number, const double *before, double half)
+{
+    for (size_t i = 0; i < points.length; i++) {
+        double right = number == 0 ? (before[i] - 7) / half : before[i];
+        if (memcmp(&points_place[i], &right, sizeof right) != 0) {
+            return false;
+        }
+    }
+    return true;
+}
+
+static Outcome border(size_t k)
+{
+    const double none = 0;
+    const double sides[3] = {1.0 / 1048576, 1, 1073741824};
+    const double others[3] = {7, 1 / none, none / none};
+    Trial t = {1 + take(&k, 3), 2, 0, POINTS, false, 0, {0}};
+    t.with_gradients = take(&k, 2) == 1;
+    double half = sides[take(&k, 3)] * 0.5;
+    size_t axis = take(&k, 3) % t.dimension;
+    size_t place = axis * POINTS + take(&k, POINTS);
+    lend_all(&t);
+    points_place[place] = bordering(&k, half);
+    points_place[(place + 1) % points.length] = others[k];
+    double before[3 * POINTS];
+    memcpy(before, points_place, points.length * sizeof before[0]);
+    double coordinate = (before[place] - 7) / half;
+    bool is_in = -1 - 1.0 / 1048576 <= coordinate && coordinate <= 1 + 1.0 / 1048576;
+    uint8_t expected = first(unless(k == 0, BBFMM_NOT_FINITE), unless(is_in, BBFMM_OUT_OF_CELL));
+    uint8_t number = bbfmm_get_approximation_coefficients(
+        t.dimension, t.order, half * 2, t.rows, t.with_gradients, LENT(centre), LENT(polynomials), LENT(points), LENT(values),
+        LENT(gradients), LENT(factors), LENT(slopes));
+    Outcome outcome = {expected, number, !are_right(number, before, half)};
+    points_place[place] = 7;
+    points_place[(place + 1) % points.length] = 7;
+    return outcome;
+}
+
 void walk_coefficients(void)
 {
     Buffer *const lent[] = {&centre, &polynomials, &points, &values, &gradients, &factors, &slopes};
     WALK("get_approximation_coefficients", CELLS + LENGTHS, get_approximation_coefficients, lent);
+    WALK("get_approximation_coefficients_at_the_border", BORDERS, border, lent);
 }

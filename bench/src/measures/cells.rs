@@ -8,6 +8,8 @@ use ours::{Cell, Gradients};
 use std::hint::black_box;
 
 const POINTS: [usize; 3] = [1, 64, 4096];
+/// More of them, for calls that only test the points.
+const MANY: [usize; 3] = [16, 256, 4096];
 
 /// Products along the axes, and S of each axis; and the same again for each axis of a gradient.
 fn floor(dimension: usize, order: usize, rows: usize, with_gradients: bool) -> usize {
@@ -66,4 +68,33 @@ pub fn values(size: usize) -> Measure {
 
 pub fn gradients(size: usize) -> Measure {
     coefficients(size, true)
+}
+
+/// One node, and points of which the very last coordinate is at fault. So one call makes every test of the points but the last,
+/// and the other that too. The text refuses nothing.
+fn refused(size: usize, last: f64) -> Measure {
+    let ((dimension, _), rows) = (SHAPES[size], MANY[size]);
+    let cell = Cell { dimension, order: 1, length: 2.0, rows };
+    let mut points = floats(dimension * rows);
+    points[dimension * rows - 1] = last;
+    let centre = vec![0.0; dimension];
+    let (mut values, mut factors) = (vec![0.0; rows], vec![0.0; dimension * rows]);
+    Measure {
+        given: format!("order 1, dimension {dimension}, {rows} points"),
+        floor: dimension * rows,
+        ours: Box::new(move || {
+            let points = black_box(&mut points);
+            let answer = ours::get_approximation_coefficients(cell, &centre, &[1.0], points, &mut values, &mut factors, None);
+            black_box(answer.expect_err("a fault"));
+        }),
+        text: None,
+    }
+}
+
+pub fn not_finite(size: usize) -> Measure {
+    refused(size, f64::INFINITY)
+}
+
+pub fn out_of_cell(size: usize) -> Measure {
+    refused(size, 2.0)
 }

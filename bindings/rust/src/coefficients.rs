@@ -40,7 +40,7 @@ pub struct Gradients<'a> {
 /// # Errors
 ///
 /// [`Refusal::NoDimension`], [`Refusal::NoOrder`], [`Refusal::NoCount`], [`Refusal::WrongLength`],
-/// [`Refusal::NoCell`] and [`Refusal::NotFinite`].
+/// [`Refusal::NoCell`], [`Refusal::NotFinite`] and [`Refusal::OutOfCell`].
 ///
 /// # Examples
 ///

@@ -41,11 +41,14 @@ pub enum Refusal {
     NotFinite = 9,
     /// A byte of a mask is not 0 or 1.
     NoMask = 10,
+    /// A point does not belong to the cell: one of its reference coordinates, (point - centre) /
+    /// (length * 0.5), is above 1 + 2^-20 in size.
+    OutOfCell = 11,
 }
 
 impl Refusal {
     /// Every refusal, by rising number.
-    pub const ALL: [Refusal; 10] = [
+    pub const ALL: [Refusal; 11] = [
         Refusal::NoDimension,
         Refusal::NoOrder,
         Refusal::NoCount,
@@ -56,9 +59,10 @@ impl Refusal {
         Refusal::NoCell,
         Refusal::NotFinite,
         Refusal::NoMask,
+        Refusal::OutOfCell,
     ];
 
-    /// The number of the refusal, from 1 to 10, as the library and its documents give it.
+    /// The number of the refusal, from 1 to 11, as the library and its documents give it.
     #[must_use]
     pub fn number(self) -> u8 {
         self as u8
@@ -77,6 +81,7 @@ impl Refusal {
             Refusal::NoCell => "the length of the cell is not from 2^-20 to 2^30",
             Refusal::NotFinite => "a coordinate is not finite",
             Refusal::NoMask => "a byte of the mask is not 0 or 1",
+            Refusal::OutOfCell => "a point is out of the cell",
         }
     }
 }
@@ -97,5 +102,5 @@ pub(crate) fn told(number: u8) -> Result<(), Refusal> {
     let place = usize::from(number) - 1;
     Err(*Refusal::ALL
         .get(place)
-        .expect("a libbbfmm.a of this version answers 0 to 10"))
+        .expect("a libbbfmm.a of this version answers 0 to 11"))
 }

@@ -6,10 +6,10 @@ use Prim.Native.Nat.{ℕ, _*_, _^_, _<_, _≤_}
 use lib.Dec.{leb}
 use lib.Ieee.{Float}
 use borrow.Author.Tests.{eqb-true, leb-true, le-leb, lt-leb}
-use Rattle.common.specs.Refusals.{sizeIf, isCell, Shape, mostPoints, shapeNumber}
+use Rattle.common.specs.Refusals.{sizeIf, Shape, mostPoints, shapeNumber}
 use Rattle.common.proofs.Cases.{equal-and}
 use Rattle.common.proofs.Limits.{shape-out, shape-past, call-refused, call-done, passed, shape-passed}
-use Rattle.coordinates.specs.Coordinates.{allFinite, coordinate}
+use Rattle.coordinates.specs.Coordinates.{coordinate, pointsNumber}
 use Rattle.coefficients.specs.Coefficients.{lengths, lengthsFit, coefficientsNumber, Memory, leaves, coefficientsCall}
 use Rattle.coefficients.specs.Working.{Admitted}
 use Rattle.coefficients.specs.declared.Lengths.{Lengths}
@@ -29,31 +29,20 @@ module _ (D p P : ℕ) (side : Float) (centre points : List Float) (fit : Bool) 
       unfolding coefficientsNumber
       number-length f = sym (shape-past D p _ s ∙ rw (le-leb P mostPoints few, f))
 
-      module _ (f : fit ≡ true) where
-        pub number-cell : isCell side ≡ false → 8 ≡ coefficientsNumber D p P side centre points fit
-        unfolding coefficientsNumber
-        number-cell c = sym (shape-past D p _ s ∙ rw (le-leb P mostPoints few, f, c))
+      -- past the lengths it is the number of the cell and its points
+      pub number-rest : fit ≡ true → pointsNumber D P side centre points ≡ coefficientsNumber D p P side centre points fit
+      unfolding coefficientsNumber
+      number-rest f = sym (shape-past D p _ s ∙ rw (le-leb P mostPoints few, f))
 
-        module _ (c : isCell side ≡ true) where
-          pub number-points : allFinite points ≡ false → 9 ≡ coefficientsNumber D p P side centre points fit
-          unfolding coefficientsNumber
-          number-points x = sym (shape-past D p _ s ∙ rw (le-leb P mostPoints few, f, c, x))
-
-          pub number-centre : allFinite points ≡ true → allFinite centre ≡ false → 9 ≡ coefficientsNumber D p P side centre points fit
-          unfolding coefficientsNumber
-          number-centre x y = sym (shape-past D p _ s ∙ rw (le-leb P mostPoints few, f, c, x, y))
-
-          pub number-none : allFinite points ≡ true → allFinite centre ≡ true → 0 ≡ coefficientsNumber D p P side centre points fit
-          unfolding coefficientsNumber
-          number-none x y = sym (shape-past D p _ s ∙ rw (le-leb P mostPoints few, f, c, x, y))
-
-  -- not refused: the shape, the count and the lengths are right
-  pub number-taken : coefficientsNumber D p P side centre points fit ≡ 0 → Shape D p × (P ≤ mostPoints) × (fit ≡ true)
+  -- not refused: the shape, the count and the lengths are right, and so are the cell and its points
+  pub number-taken : coefficientsNumber D p P side centre points fit ≡ 0 →
+      Shape D p × (P ≤ mostPoints) × (fit ≡ true) × (pointsNumber D P side centre points ≡ 0)
   unfolding coefficientsNumber
   number-taken z =
       let s = shape-passed D p _ z in
       let few = passed (leb P mostPoints) 2 _ (s .1) in
-      (s .0, leb-true P mostPoints (few .0), passed fit 6 _ (few .1) .0)
+      let long = passed fit 6 _ (few .1) in
+      (s .0, leb-true P mostPoints (few .0), long .0, long .1)
 
 module _ (D p P : ℕ) (with : Bool) (lent : Lengths) where
   -- the lengths are as stated

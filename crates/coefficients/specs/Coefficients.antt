@@ -8,9 +8,8 @@ use lib.ListN.{length}
 use Rattle.common.specs.Digits.{digit}
 use Rattle.common.specs.Floats.{times, one₆₄}
 use Rattle.common.specs.Matrices.{columnMajor}
-use Rattle.common.specs.Refusals.{noDimension, noOrder, noCount, wrongLength, noCell, notFinite}
-use Rattle.common.specs.Refusals.{sizeIf, unless, isDimension, isOrder, isCell, mostPoints, left}
-use Rattle.coordinates.specs.Coordinates.{allFinite, coordinate}
+use Rattle.common.specs.Refusals.{noDimension, noOrder, noCount, wrongLength, sizeIf, unless, isDimension, isOrder, mostPoints, left}
+use Rattle.coordinates.specs.Coordinates.{coordinate, pointsNumber}
 use Rattle.axes.specs.Axes.{S, S′, onAxes}
 use Rattle.coefficients.specs.declared.Lengths.{Lengths}
 
@@ -87,7 +86,7 @@ coefficientsNumber D p P side centre points fit =
     unless (isDimension D) noDimension
     (unless (isOrder p) noOrder
     (unless (leb P mostPoints) noCount
-    (unless fit wrongLength (unless (isCell side) noCell (unless (allFinite points && allFinite centre) notFinite 0)))))
+    (unless fit wrongLength (pointsNumber D P side centre points))))
 
 -- the points' reference coordinates are worked out from the cell
 unfoldable pub coefficientsCall : (D p P : ℕ) → (side : Float) → (with : Bool) → (centre polynomials : List Float) → Memory → ℕ × Memory

@@ -1,11 +1,12 @@
 // The refusals of the coefficients' call.
 ghost use mathlib.Core.Path.{_≡_};
 ghost use Prim.Native.Nat.{_≤_};
+ghost use lib.ListN.{length};
 ghost use Rattle.common.specs.Refusals.{Shape, mostPoints};
 ghost use Rattle.coefficients.specs.Coefficients.{lengthsFit, coefficientsNumber};
 use crate::Lengths;
 use axes::Cell;
-use coordinates::all_finite;
+use coordinates::points_number;
 
 fn lengths_fit(
     dimension: usize,
@@ -48,6 +49,7 @@ pub(crate) fn coefficients_number(
     points: &[f64],
     lent: Lengths,
 ) -> u8
+    requires { ⌜ (lent .points ≡ length (now points)) × (lent .centre ≡ length (now centre)) ⌝ }
     ensures { λ r. ⌜ r ≡
         coefficientsNumber (cell .dimension) (cell .order) (cell .rows) (cell .side) (now (centre .entry)) (now (points .entry))
         (lengthsFit (cell .dimension) (cell .order) (cell .rows) «with_gradients» lent) ⌝ }
@@ -65,14 +67,5 @@ pub(crate) fn coefficients_number(
     if !lengths_fit(dimension, order, rows, with_gradients, lent) {
         return common::WRONG_LENGTH;
     }
-    if !common::is_cell(cell.side) {
-        return common::NO_CELL;
-    }
-    if !all_finite(points) {
-        return common::NOT_FINITE;
-    }
-    if !all_finite(centre) {
-        return common::NOT_FINITE;
-    }
-    0
+    points_number(dimension, rows, cell.side, centre, points)
 }

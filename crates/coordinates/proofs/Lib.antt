@@ -1,3 +1,5 @@
 pub mod Finite
+pub mod InCell
+pub mod Numbers
 pub mod Steps
 pub mod Determined

@@ -1,1 +1,2 @@
-// The results that document 01 fixes, proved together: the statement is in specs/, its proof in proofs/. There is no code.
+// The results that document 01 and the requests fix, proved together: the statements are in specs/, their proofs in proofs/. There is
+// no code.

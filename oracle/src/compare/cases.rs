@@ -59,17 +59,21 @@ pub fn sources(random: &mut Random, stream: &mut Stream) {
     ask_sources(stream, dimension, length, reference, &nodes);
 }
 
-/// Points in a cell, or anywhere, a column an axis.
+/// Points in a cell, a column an axis: floats of any sort, brought into it, or some drawn in it.
 fn points(random: &mut Random, centre: &[f64], length: f64, rows: usize) -> Vec<f64> {
     if random.below(2) == 0 {
-        return draw::finite_floats(random, rows * centre.len());
+        let mut anywhere = draw::finite_floats(random, rows * centre.len());
+        coefficients::bring_in(length, centre, &mut anywhere);
+        return anywhere;
     }
     let mut column = |middle: &f64| {
         let scaled = random.units(rows).into_iter();
         let placed = scaled.map(|x| middle + x * (0.5 * length));
         placed.collect::<Vec<f64>>()
     };
-    centre.iter().flat_map(&mut column).collect()
+    let mut points: Vec<f64> = centre.iter().flat_map(&mut column).collect();
+    coefficients::bring_in(length, centre, &mut points);
+    points
 }
 
 pub fn coefficients(random: &mut Random, stream: &mut Stream, with_gradients: bool) {

@@ -27,8 +27,18 @@ fn call(
     )
 }
 
+/// Points about the middle of a cell, axis by axis. Far from 0 the sum rounds, and may leave the
+/// cell.
+fn points(draw: &mut Draw, cell: Cell, centre: &[f64], count: usize) -> Vec<f64> {
+    let mut point = |place: usize| {
+        let middle = centre.get(place / cell.rows.max(1)).unwrap_or(&0.0);
+        middle + draw.offset() * (cell.length * 0.5)
+    };
+    (0..count).map(&mut point).collect()
+}
+
 /// The buffers for a cell, now and then of another length.
-fn lent(draw: &mut Draw, cell: Cell, with_gradients: bool) -> Lent {
+fn lent(draw: &mut Draw, cell: Cell, with_gradients: bool, centre: &[f64]) -> Lent {
     let (dimension, order) = (cell.dimension.min(3), cell.order.min(16));
     // Too many rows are refused whatever the buffers are: no need for large ones.
     let rows = if cell.rows > 4_096 { 2 } else { cell.rows };
@@ -43,7 +53,7 @@ fn lent(draw: &mut Draw, cell: Cell, with_gradients: bool) -> Lent {
     };
     let gradients = wanted(rows * nodes * dimension);
     let slopes = wanted(rows * dimension * order);
-    let points = draw.coordinates(length);
+    let points = points(draw, cell, centre, length);
     let values = draw.lent(rows * nodes);
     let factors = draw.lent(rows * dimension * order);
     [points, values, gradients, factors, slopes]
@@ -54,7 +64,7 @@ fn cell_is_ruled(draw: &mut Draw, tally: &mut Tally, cell: Cell) {
     let length = draw.length(cell.dimension.min(3));
     let centre = draw.coordinates(length);
     let polynomials = draw.lent(cell.order.min(17).pow(2));
-    let before = lent(draw, cell, with_gradients);
+    let before = lent(draw, cell, with_gradients, &centre);
     let mut after = before.clone();
     let answer = call(cell, with_gradients, &centre, &polynomials, &mut after);
     let ruled = coefficients(cell, with_gradients, &centre, &polynomials, &before);
@@ -87,7 +97,7 @@ fn small_cells_are_ruled() {
         };
         cell_is_ruled(&mut draw, &mut tally, cell);
     }
-    tally.reached("get_approximation_coefficients", &[0, 1, 2, 3, 7, 8, 9]);
+    tally.reached("get_approximation_coefficients", &[0, 1, 2, 3, 7, 8, 9, 11]);
 }
 
 #[test]
@@ -115,5 +125,37 @@ fn large_cells_are_ruled() {
             cell_is_ruled(&mut draw, &mut tally, cell);
         }
     }
-    tally.reached("large cells", &[0]);
+    // A point beside the border of a cell far from 0 may round out of it.
+    tally.reached("large cells", &[0, 11]);
+}
+
+/// One point of a line about 0, on its border and a step of the last bit beside it, at three lengths.
+#[test]
+fn the_border_is_in_the_cell() {
+    let border = 1.0 + 2f64.powi(-20);
+    for length in [2f64.powi(-20), 1.0, 2f64.powi(30)] {
+        for (coordinate, is_in) in [
+            (border.next_down(), true),
+            (border, true),
+            (border.next_up(), false),
+        ] {
+            for x in [coordinate, -coordinate] {
+                let cell = Cell {
+                    dimension: 1,
+                    order: 2,
+                    length,
+                    rows: 1,
+                };
+                let point = x * (length * 0.5);
+                let mut lent: Lent = [vec![point], vec![9.0; 2], vec![], vec![9.0; 2], vec![]];
+                let before = lent.clone();
+                let answer = call(cell, false, &[0.0], &[1.0, 1.0, -0.5, 0.5], &mut lent);
+                if is_in {
+                    assert_eq!((answer, &lent[0]), (Ok(()), &vec![x]));
+                } else {
+                    assert_eq!((answer, &lent), (Err(Refusal::OutOfCell), &before));
+                }
+            }
+        }
+    }
 }

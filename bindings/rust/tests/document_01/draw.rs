@@ -139,6 +139,20 @@ impl Draw {
         self.floats(count).into_iter().map(finite).collect()
     }
 
+    /// Where a point lies from the middle of its cell, in halves of the cell's length: from -1 to 1, on
+    /// the border or a step of the last bit beside it; and now and then anywhere.
+    pub fn offset(&mut self) -> f64 {
+        let border = 1.0 + 2f64.powi(-20);
+        if self.is_fault(ONE_OUTSIDE * 4) {
+            let any = self.coordinates(1)[0];
+            return self.one_of(&[border.next_up(), -border.next_up(), any]);
+        }
+        match self.below(16) {
+            0 => self.one_of(&[border, -border, border.next_down(), -0.0, 1.0, -1.0]),
+            _ => self.float(1),
+        }
+    }
+
     /// Floats for a buffer that is lent, now and then of another length than it should be.
     pub fn lent(&mut self, right: usize) -> Vec<f64> {
         let length = self.length(right);

@@ -122,7 +122,7 @@ fn crosses() {
 #[test]
 fn numbers_and_refusals_agree() {
     let numbers = Refusal::ALL.map(Refusal::number);
-    assert_eq!(numbers, [1, 2, 3, 4, 5, 6, 7, 8, 9, 10]);
+    assert_eq!(numbers, [1, 2, 3, 4, 5, 6, 7, 8, 9, 10, 11]);
     assert_eq!(
         [Stop::Tolerable, Stop::Spent, Stop::UsedUp].map(Stop::number),
         [1, 2, 3]

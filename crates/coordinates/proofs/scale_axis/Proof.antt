@@ -10,24 +10,24 @@ use Rattle.coordinates.proofs.scale_axis.Statement.{statement}
 use Rattle.coordinates.proofs.scale_axis.Tie as tie
 
 abbrev Inv-loop : tie.InvT-loop
-Inv-loop rows side centre at points₀ half i₀ points i = Filling at rows
+Inv-loop rows side centre at points₀ i₀ points i = Filling at rows
     (λ j. coordinateIn side centre (getD points₀ (at + j) nan)) points₀ points i
 
 abbrev μ-loop : tie.MeasureT-loop
-μ-loop rows side centre at points₀ half i₀ points i = rows - i
+μ-loop rows side centre at points₀ i₀ points i = rows - i
 
 loop-holds : tie.Need-loop-holds Inv-loop μ-loop
 loop-holds c = let a = c .before .args in filling-none (a .at) (a .rows)
     (λ j. coordinateIn (a .side) (a .centre) (getD (a .points .now) (a .at + j) nan)) _
 
-add-t11 : tie.Need-add-t11 Inv-loop μ-loop
-add-t11 c = search needs
+add-t10 : tie.Need-add-t10 Inv-loop μ-loop
+add-t10 c = search needs
 
-mul-t12 : tie.Need-mul-t12 Inv-loop μ-loop
-mul-t12 c = search needs
+mul-t11 : tie.Need-mul-t11 Inv-loop μ-loop
+mul-t11 c = search needs
 
-slice-read-t14 : tie.Need-slice-read-t14 Inv-loop μ-loop
-slice-read-t14 c = search needs
+slice-read-t13 : tie.Need-slice-read-t13 Inv-loop μ-loop
+slice-read-t13 c = search needs
 
 scale-requires : tie.Need-scale-requires Inv-loop μ-loop
 scale-requires c κs = search needs
@@ -48,7 +48,6 @@ loop-less : tie.Need-loop-less Inv-loop μ-loop
 loop-less c = search needs
 
 loop-again : tie.Need-loop-again Inv-loop μ-loop
-unfolding coordinateIn
 loop-again c =
     let s = c .before .before .before .before .before in
     let a = s .args in
@@ -72,9 +71,9 @@ scale-axis-spec =
     Inv-loop
     μ-loop
     loop-holds
-    add-t11
-    mul-t12
-    slice-read-t14
+    add-t10
+    mul-t11
+    slice-read-t13
     scale-requires
     add-points
     mul-points

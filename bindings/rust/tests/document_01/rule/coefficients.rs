@@ -27,6 +27,7 @@ fn check(
     let wanted = usize::from(with_gradients);
     let not_finite = |list: &[f64]| list.iter().any(|coordinate| !coordinate.is_finite());
     refusal(&[
+        (11, is_outside(cell, centre, &lent[0])),
         (9, not_finite(centre) || not_finite(&lent[0])),
         bad_cell(length),
         bad_length(centre, &[dimension]),
@@ -40,6 +41,22 @@ fn check(
         bad_order(order),
         bad_dimension(dimension),
     ])
+}
+
+/// Where a point lies in the cell, on one axis: (point - centre)/(length*0.5).
+fn coordinate(length: f64, centre: f64, point: f64) -> f64 {
+    (point - centre) / (length * 0.5)
+}
+
+/// A reference coordinate is above 1 + 2^-20 in size. Lists that do not fit are refused before.
+fn is_outside(cell: Cell, centre: &[f64], points: &[f64]) -> bool {
+    let border = 1.0 + 2f64.powi(-20);
+    let axes = points.chunks(cell.rows.max(1)).zip(centre);
+    let is_out = |(column, middle): (&[f64], &f64)| {
+        let size = |point: &f64| coordinate(cell.length, *middle, *point).abs();
+        column.iter().any(|point| size(point) > border)
+    };
+    axes.into_iter().any(is_out)
 }
 
 /// S of each index at a reference coordinate: (sum*2 - 1)/p.
@@ -112,7 +129,7 @@ pub fn coefficients(
         rows,
     } = cell;
     let nodes = nodes_of_block(dimension, order);
-    let scale = |(place, point): (usize, &f64)| (point - centre[place / rows]) / (length * 0.5);
+    let scale = |(place, point): (usize, &f64)| coordinate(length, centre[place / rows], *point);
     let scaled: Vec<f64> = lent[0].iter().enumerate().map(scale).collect();
     let factors = by_axis(cell, &scaled, |x| shares(order, node_polynomials, x));
     let slopes = by_axis(cell, &scaled, |x| {

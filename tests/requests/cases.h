@@ -1,0 +1,35 @@
+/* Cases that were written down for the requests by someone who has not seen the code: what goes into a call, and what must come out. */
+#ifndef CASES_H
+#define CASES_H
+
+#include "bbfmm.h"
+
+enum { FIELDS = 32, MOST = 4096 };
+
+/* A field: its name, its kind (u and i for whole numbers, f for floats, x for bytes), and its values, of which floats stand as bits. */
+typedef struct {
+    char side[4]; /* in or out */
+    char name[28];
+    char kind;
+    size_t count;
+    uint64_t values[MOST];
+} Field;
+
+/* What a call is given, by name. A field that is not there ends the program. */
+size_t number(const char *name);
+size_t number_at(const char *name, size_t place);
+double real(const char *name);
+/* The floats of a field, and how many they are. */
+size_t reals(const char *name, double *list, size_t room);
+
+/* Holds what came out to what must. A field that is not there is not looked at. */
+void hold_number(const char *name, size_t found);
+void hold_reals(const char *name, const double *list, size_t count);
+/* For what the case does not list. */
+void hold(bool holds, const char *what);
+
+/* Makes the call of the case that was read. */
+typedef void Answer(void);
+Answer answer_e01_cell;
+
+#endif

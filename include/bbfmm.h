@@ -38,7 +38,7 @@ enum {
     BBFMM_NO_ORDER = 2,     /* the order is not 1 to 16 */
     BBFMM_NO_COUNT = 3,     /* too many points, entries, singular values, rows or columns, or no singular values */
     BBFMM_NO_ENTRY = 4,     /* one of a vector's first D entries is outside -3 to 3 */
-    BBFMM_NO_CASE = 5,      /* a case, a reference number or a child is not below how many there are */
+    BBFMM_NO_CASE = 5,      /* a case, a reference number, a child or a node is not below how many there are */
     BBFMM_NOT_ZERO = 6,     /* an entry of a vector past the first D is not 0 */
     BBFMM_WRONG_LENGTH = 7, /* a buffer has not its length */
     BBFMM_NO_CELL = 8,      /* a cell's length is not from 2^-20 to 2^30 */
@@ -63,6 +63,16 @@ enum {
  * Refuses with 1, 4, 6, 7.
  */
 uint8_t bbfmm_look_up(size_t dimension, int32_t x, int32_t y, int32_t z, size_t *answer, size_t answer_length);
+
+/*
+ * Follows one node, below N, of the reference block under the table of the case of the vector (x, y, z), near or far; no table is
+ * filled.
+ * answer: 2 entries. The node of the turned block that the node goes to; the node of the reference block that comes to the node's
+ *     place. They are the entries at the node of the table and of its inverse.
+ * Refuses with 1, 2, 4, 5, 6, 7.
+ */
+uint8_t bbfmm_follow_node(
+    size_t dimension, size_t order, int32_t x, int32_t y, int32_t z, size_t node, size_t *answer, size_t answer_length);
 
 /*
  * The reference vector with this number, which is below 2, 7, 16 for dimension 1, 2, 3.

@@ -9,7 +9,7 @@ int memcmp(const void *left, const void *right, size_t bytes);
 void *malloc(size_t bytes);
 void *calloc(size_t count, size_t bytes);
 
-enum { CALLS = 20, SIZES = 3 };
+enum { CALLS = 21, SIZES = 3 };
 
 static const size_t DIMENSIONS[SIZES] = {1, 2, 3};
 static const size_t ORDERS[SIZES] = {2, 8, 16};
@@ -37,7 +37,7 @@ static void make(size_t call, size_t size)
 {
     size_t order = ORDERS[size];
     size_t count = COUNTS[size];
-    written_count = call == 14 ? 4 * power(order, 3) * 4096 + 500000 : call == 13 ? power(order, 3) * 4096 + 500000 : 2200000;
+    written_count = call == 15 ? 4 * power(order, 3) * 4096 + 500000 : call == 14 ? power(order, 3) * 4096 + 500000 : 2200000;
     table_count = 8192;
     given = malloc(16384 * sizeof *given);
     nodes = malloc(16 * sizeof *nodes);
@@ -127,6 +127,11 @@ static void look_up(bool ours, size_t d, int32_t x, int32_t y, int32_t z)
     (ours ? bbfmm_look_up : plain_look_up)(d, x, y, z, answer, 4);
 }
 
+static void follow(bool ours, size_t d, size_t p, int32_t x, int32_t y, int32_t z)
+{
+    (ours ? bbfmm_follow_node : plain_follow_node)(d, p, x, y, z, power(p, d) / 2, answer, 2);
+}
+
 static void reference(bool ours, size_t d, size_t number)
 {
     (ours ? bbfmm_reference_vector : plain_reference_vector)(d, number, vector, 3);
@@ -209,18 +214,19 @@ static void once(bool ours, size_t call, size_t size)
     case 4: transfer(ours, size, false); break;
     case 5: transfer(ours, size, true); break;
     case 6: look_up(ours, d, v[0], v[1], v[2]); break;
-    case 7: reference(ours, d, 1); break;
-    case 8: permutation(ours, d, ORDERS[size], 1, false, table); break;
-    case 9: permutation(ours, d, ORDERS[size], 1, true, table); break;
-    case 10: turn(ours, size); break;
-    case 11: points(ours, size, false); break;
-    case 12: points(ours, size, true); break;
-    case 13: coefficients(ours, size, false); break;
-    case 14: coefficients(ours, size, true); break;
-    case 15: refused(ours, size, 1e308 * 10); break;
-    case 16: refused(ours, size, 2); break;
-    case 17: choose(ours, size, false); break;
-    case 18: choose(ours, size, true); break;
+    case 7: follow(ours, d, ORDERS[size], v[0], v[1], v[2]); break;
+    case 8: reference(ours, d, 1); break;
+    case 9: permutation(ours, d, ORDERS[size], 1, false, table); break;
+    case 10: permutation(ours, d, ORDERS[size], 1, true, table); break;
+    case 11: turn(ours, size); break;
+    case 12: points(ours, size, false); break;
+    case 13: points(ours, size, true); break;
+    case 14: coefficients(ours, size, false); break;
+    case 15: coefficients(ours, size, true); break;
+    case 16: refused(ours, size, 1e308 * 10); break;
+    case 17: refused(ours, size, 2); break;
+    case 18: choose(ours, size, false); break;
+    case 19: choose(ours, size, true); break;
     default: cross(ours, size); break;
     }
 }

@@ -6,6 +6,8 @@
 #include "bbfmm.h"
 
 uint8_t plain_look_up(size_t dimension, int32_t x, int32_t y, int32_t z, size_t *restrict answer, size_t answer_length);
+uint8_t plain_follow_node(
+    size_t dimension, size_t order, int32_t x, int32_t y, int32_t z, size_t node, size_t *restrict answer, size_t answer_length);
 uint8_t plain_reference_vector(size_t dimension, size_t number, int32_t *restrict vector, size_t vector_length);
 uint8_t plain_combined_permutation(size_t dimension, size_t order, size_t number, uint16_t *restrict table, size_t table_length);
 uint8_t plain_inverse_permutation(size_t dimension, size_t order, size_t number, uint16_t *restrict table, size_t table_length);

@@ -89,6 +89,45 @@ uint8_t plain_look_up(size_t dimension, int32_t x, int32_t y, int32_t z, size_t 
     return 0;
 }
 
+/* The entries of both tables at one node: its indices go to their axes, and back, reversed where an entry is negative. */
+uint8_t plain_follow_node(
+    size_t dimension, size_t order, int32_t x, int32_t y, int32_t z, size_t node, size_t *restrict answer, size_t answer_length)
+{
+    int32_t entry[3] = {x, y, z};
+    uint8_t refused = of_vector(dimension, entry);
+    if (refused == BBFMM_NO_DIMENSION || of_shape(dimension, order) != 0) {
+        return of_shape(dimension, order);
+    }
+    if (refused == BBFMM_NO_ENTRY) {
+        return refused;
+    }
+    if (node >= power(order, dimension)) {
+        return BBFMM_NO_CASE;
+    }
+    if (refused != 0 || answer_length != 2) {
+        return refused != 0 ? refused : BBFMM_WRONG_LENGTH;
+    }
+    size_t size[3], axes[3], index[3], to[3], from[3];
+    for (size_t axis = dimension; axis > 0; axis--) {
+        size[axis - 1] = size_of(entry[axis - 1]);
+        index[axis - 1] = node % order;
+        node /= order;
+    }
+    order_of(dimension, size, axes);
+    for (size_t m = 0; m < dimension; m++) {
+        size_t axis = axes[m];
+        to[axis] = entry[axis] < 0 ? order - 1 - index[m] : index[m];
+        from[m] = entry[axis] < 0 ? order - 1 - index[axis] : index[axis];
+    }
+    answer[0] = 0;
+    answer[1] = 0;
+    for (size_t axis = 0; axis < dimension; axis++) {
+        answer[0] = answer[0] * order + to[axis];
+        answer[1] = answer[1] * order + from[axis];
+    }
+    return 0;
+}
+
 uint8_t plain_reference_vector(size_t dimension, size_t number, int32_t *restrict vector, size_t vector_length)
 {
     static const size_t MANY[4] = {0, 2, 7, 16};

@@ -23,7 +23,7 @@ pub const SHAPES: [(usize, usize); SIZES] = [(1, 2), (2, 8), (3, 16)];
 
 pub type Make = fn(usize) -> Measure;
 
-pub const CALLS: [(&str, Make); 20] = [
+pub const CALLS: [(&str, Make); 21] = [
     ("generate_chebyshev_nodes", polynomials::nodes),
     ("evaluate_chebyshev_polynomials", polynomials::values),
     ("evaluate_chebyshev_polynomials, with derivatives", polynomials::derivatives),
@@ -31,6 +31,7 @@ pub const CALLS: [(&str, Make); 20] = [
     ("apply_cheb_tensor_transfer", blocks::transfer),
     ("apply_cheb_tensor_transfer, transposed", blocks::transposed),
     ("look_up", turns::look_up),
+    ("follow_node", turns::follow_node),
     ("reference_vector", turns::reference_vector),
     ("combined_permutation", turns::combined),
     ("inverse_permutation", turns::inverse),

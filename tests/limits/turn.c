@@ -15,6 +15,25 @@ static bool is_entry(int32_t x)
     return -3 <= x && x <= 3;
 }
 
+/* The first entries, as many as the dimension, are entries; and those past them are zeros. */
+static bool are_entries(size_t dimension, const int32_t *entry)
+{
+    bool are = true;
+    for (size_t axis = 0; axis < 3; axis++) {
+        are = are && (axis >= dimension || is_entry(entry[axis]));
+    }
+    return are;
+}
+
+static bool are_zeros(size_t dimension, const int32_t *entry)
+{
+    bool are = true;
+    for (size_t axis = 0; axis < 3; axis++) {
+        are = are && (axis < dimension || entry[axis] == 0);
+    }
+    return are;
+}
+
 /* Six dimensions, seven numbers for each of three entries, four lengths. */
 static Outcome look_up(size_t k)
 {
@@ -24,15 +43,29 @@ static Outcome look_up(size_t k)
         entry[axis] = entry_at(take(&k, 7));
     }
     bool fits = lend(&answer, 4, k);
-    bool are_entries = true;
-    bool are_zeros = true;
-    for (size_t axis = 0; axis < 3; axis++) {
-        are_entries = are_entries && (axis >= dimension || is_entry(entry[axis]));
-        are_zeros = are_zeros && (axis < dimension || entry[axis] == 0);
-    }
-    uint8_t vector_number = first(unless(are_entries, BBFMM_NO_ENTRY), unless(are_zeros, BBFMM_NOT_ZERO));
+    uint8_t vector_number =
+        first(unless(are_entries(dimension, entry), BBFMM_NO_ENTRY), unless(are_zeros(dimension, entry), BBFMM_NOT_ZERO));
     uint8_t expected = first(of_shape(dimension, 1), first(vector_number, unless(fits, BBFMM_WRONG_LENGTH)));
     return (Outcome){expected, bbfmm_look_up(dimension, entry[0], entry[1], entry[2], LENT(answer)), false};
+}
+
+/* Six dimensions, six orders, seven numbers for each of three entries, four nodes, four lengths. */
+static Outcome follow_node(size_t k)
+{
+    size_t dimension = dimension_at(take(&k, 6));
+    size_t order = order_at(take(&k, 6));
+    int32_t entry[3];
+    for (size_t axis = 0; axis < 3; axis++) {
+        entry[axis] = entry_at(take(&k, 7));
+    }
+    size_t nodes = power(dimension, order);
+    size_t node = (size_t[]){0, nodes - 1, nodes, (size_t)-1}[take(&k, 4)];
+    bool fits = lend(&answer, 2, k);
+    uint8_t expected = first(of_shape(dimension, order), unless(are_entries(dimension, entry), BBFMM_NO_ENTRY));
+    expected = first(expected, unless(node < nodes, BBFMM_NO_CASE));
+    expected = first(expected, first(unless(are_zeros(dimension, entry), BBFMM_NOT_ZERO), unless(fits, BBFMM_WRONG_LENGTH)));
+    uint8_t number = bbfmm_follow_node(dimension, order, entry[0], entry[1], entry[2], node, LENT(answer));
+    return (Outcome){expected, number, false};
 }
 
 /* Six dimensions, eight numbers, four lengths. */
@@ -82,6 +115,7 @@ void walk_turn(void)
     Buffer *const vectors[] = {&vector};
     Buffer *const tables[] = {&table};
     WALK("look_up", 6 * 7 * 7 * 7 * 4, look_up, answers);
+    WALK("follow_node", 6 * 6 * 7 * 7 * 7 * 4 * 4, follow_node, answers);
     WALK("reference_vector", 6 * 8 * 4, reference_vector, vectors);
     WALK("combined_permutation", 6 * 6 * 8 * 4, combined_permutation, tables);
     WALK("inverse_permutation", 6 * 6 * 8 * 4, inverse_permutation, tables);

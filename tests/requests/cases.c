@@ -88,6 +88,12 @@ size_t number(const char *name)
     return number_at(name, 0);
 }
 
+size_t count_of(const char *name)
+{
+    const Field *field = find("in", name);
+    return field == 0 ? 0 : field->count;
+}
+
 static double float_of(uint64_t bits)
 {
     double x;
@@ -126,6 +132,15 @@ void hold_number(const char *name, size_t found)
     hold(field != 0 && field->count == 1 && field->values[0] == found, name);
 }
 
+void hold_numbers(const char *name, const size_t *list, size_t count)
+{
+    const Field *field = find("out", name);
+    hold(field != 0 && field->count == count, name);
+    for (size_t i = 0; !is_wrong && i < count; i++) {
+        hold(field->values[i] == list[i], name);
+    }
+}
+
 static bool is_float(double x, uint64_t bits)
 {
     uint64_t found;
@@ -149,7 +164,7 @@ static Answer *answer_of(const char *file)
     static const struct {
         const char *file;
         Answer *answer;
-    } all[] = {{"e01_cell", answer_e01_cell}};
+    } all[] = {{"e01_cell", answer_e01_cell}, {"e02_node", answer_e02_node}};
     for (size_t i = 0; i < sizeof all / sizeof all[0]; i++) {
         if (strcmp(all[i].file, file) == 0) {
             return all[i].answer;

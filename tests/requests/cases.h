@@ -22,8 +22,12 @@ double real(const char *name);
 /* The floats of a field, and how many they are. */
 size_t reals(const char *name, double *list, size_t room);
 
-/* Holds what came out to what must. A field that is not there is not looked at. */
+/* How many values a field has. */
+size_t count_of(const char *name);
+
+/* Holds what came out to what must. */
 void hold_number(const char *name, size_t found);
+void hold_numbers(const char *name, const size_t *list, size_t count);
 void hold_reals(const char *name, const double *list, size_t count);
 /* For what the case does not list. */
 void hold(bool holds, const char *what);
@@ -31,5 +35,6 @@ void hold(bool holds, const char *what);
 /* Makes the call of the case that was read. */
 typedef void Answer(void);
 Answer answer_e01_cell;
+Answer answer_e02_node;
 
 #endif

@@ -20,6 +20,19 @@ pub fn look_up(size: usize) -> Measure {
     }
 }
 
+pub fn follow_node(size: usize) -> Measure {
+    let (dimension, order) = SHAPES[size];
+    let node = order.pow(dimension as u32) / 2;
+    Measure {
+        given: format!("order {order}, dimension {dimension}"),
+        floor: 2 * dimension,
+        ours: Box::new(move || {
+            black_box(ours::follow_node(dimension, order, black_box(VECTORS[size]), node)).map(drop).expect("a node")
+        }),
+        text: None,
+    }
+}
+
 pub fn reference_vector(size: usize) -> Measure {
     let dimension = size + 1;
     Measure {

@@ -55,4 +55,6 @@ pub use coefficients::{Cell, Gradients, get_approximation_coefficients};
 pub use points::{generate_chebyshev_source_points, generate_chebyshev_target_points};
 pub use refusal::Refusal;
 pub use transfer::{apply_cheb_tensor_transfer, get_m2m_transfer_operators};
-pub use turn::{Entry, combined_permutation, inverse_permutation, look_up, reference_vector};
+pub use turn::{
+    Entry, Moves, combined_permutation, follow_node, inverse_permutation, look_up, reference_vector,
+};

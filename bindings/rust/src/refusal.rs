@@ -29,7 +29,7 @@ pub enum Refusal {
     /// One of a vector's first entries, as many as the dimension, is outside -3 to 3.
     NoEntry = 4,
     /// The case is not below 2, 8, 48, the reference number not below 2, 7, 16, or the child not
-    /// below 2, 4, 8, for dimension 1, 2, 3.
+    /// below 2, 4, 8, for dimension 1, 2, 3; or the node is not below N.
     NoCase = 5,
     /// An entry of a vector past the dimension is not 0.
     NotZero = 6,
@@ -75,7 +75,7 @@ impl Refusal {
             Refusal::NoOrder => "the order is not 1 to 16",
             Refusal::NoCount => "a count is out of range",
             Refusal::NoEntry => "an entry of the vector is outside -3 to 3",
-            Refusal::NoCase => "the case, reference number or child is too large",
+            Refusal::NoCase => "the case, reference number, child or node is too large",
             Refusal::NotZero => "an entry of the vector past the dimension is not 0",
             Refusal::WrongLength => "a lent slice has not its length",
             Refusal::NoCell => "the length of the cell is not from 2^-20 to 2^30",

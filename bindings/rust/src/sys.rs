@@ -18,6 +18,17 @@ use crate::aca::Buffers;
 use crate::coefficients::Cell;
 
 unsafe extern "C" {
+    fn bbfmm_follow_node(
+        dimension: usize,
+        order: usize,
+        x: i32,
+        y: i32,
+        z: i32,
+        node: usize,
+        answer: *mut usize,
+        answer_length: usize,
+    ) -> u8;
+
     fn bbfmm_look_up(
         dimension: usize,
         x: i32,
@@ -177,6 +188,18 @@ unsafe extern "C" {
 pub(crate) fn look_up(dimension: usize, [x, y, z]: [i32; 3], answer: &mut [usize; 4]) -> u8 {
     // SAFETY: one slice, lent mutably, by its pointer and length.
     unsafe { bbfmm_look_up(dimension, x, y, z, answer.as_mut_ptr(), answer.len()) }
+}
+
+pub(crate) fn follow_node(
+    dimension: usize,
+    order: usize,
+    [x, y, z]: [i32; 3],
+    node: usize,
+    answer: &mut [usize; 2],
+) -> u8 {
+    let (place, length) = (answer.as_mut_ptr(), answer.len());
+    // SAFETY: one slice, lent mutably, by its pointer and length.
+    unsafe { bbfmm_follow_node(dimension, order, x, y, z, node, place, length) }
 }
 
 pub(crate) fn reference_vector(dimension: usize, number: usize, vector: &mut [i32; 3]) -> u8 {

@@ -45,6 +45,44 @@ pub fn look_up(dimension: usize, vector: [i32; 3]) -> Result<Entry, Refusal> {
     })
 }
 
+/// Where one node goes, and which node comes to its place.
+#[derive(Clone, Copy, Debug, PartialEq, Eq, Hash)]
+pub struct Moves {
+    /// The node of the turned block that the node goes to.
+    pub image: usize,
+    /// The node of the reference block that comes to the node's place.
+    pub origin: usize,
+}
+
+/// Follows one node, below N, under the table of the vector's case, near or far: the entries at the
+/// node of [`combined_permutation`] and of [`inverse_permutation`]. No table is filled.
+///
+/// # Errors
+///
+/// [`Refusal::NoDimension`], [`Refusal::NoOrder`], [`Refusal::NoEntry`], [`Refusal::NoCase`] for a
+/// node that is not below N, and [`Refusal::NotZero`].
+///
+/// # Examples
+///
+/// ```
+/// use bbfmm::{Moves, Refusal, follow_node};
+///
+/// assert_eq!(follow_node(2, 2, [0, -2, 0], 0)?, Moves { image: 1, origin: 2 });
+/// assert_eq!(follow_node(2, 2, [0, -2, 0], 4), Err(Refusal::NoCase));
+/// # Ok::<(), Refusal>(())
+/// ```
+pub fn follow_node(
+    dimension: usize,
+    order: usize,
+    vector: [i32; 3],
+    node: usize,
+) -> Result<Moves, Refusal> {
+    let mut answer = [0; 2];
+    told(sys::follow_node(dimension, order, vector, node, &mut answer))?;
+    let [image, origin] = answer;
+    Ok(Moves { image, origin })
+}
+
 /// The reference vector with this number, which is below 2, 7, 16 for dimension 1, 2, 3. Entries
 /// past the dimension are 0.
 ///

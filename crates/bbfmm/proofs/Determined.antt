@@ -16,13 +16,18 @@ use Rattle.transfer.specs.Tensor.{transferCall}
 use Rattle.points.specs.Points.{targetCall, sourceCall}
 use Rattle.coefficients.specs.Coefficients as coefficients
 use Rattle.aca_steps.specs.Memories.{Memory}
-use Rattle.bbfmm.specs.Told.{lookUpTold, referenceTold, argmaxTold, cutoffTold, Crossed, crossTold}
+use Rattle.bbfmm.specs.Told.{lookUpTold, followTold, referenceTold, argmaxTold, cutoffTold, Crossed, crossTold}
 
 -- TURNING A BLOCK
 
 module _ (dimension : ℕ) (vector : Vector) (answer : List ℕ) (r r' : ℕ × List ℕ) where
   bbfmm-look-up-determined : r ≡ lookUpTold dimension vector answer → r' ≡ lookUpTold dimension vector answer → r ≡ r'
   bbfmm-look-up-determined = coincide r r' (lookUpTold dimension vector answer)
+
+module _ (dimension order : ℕ) (vector : Vector) (node : ℕ) (answer : List ℕ) (r r' : ℕ × List ℕ) where
+  bbfmm-follow-node-determined : r ≡ followTold dimension order vector node answer →
+      r' ≡ followTold dimension order vector node answer → r ≡ r'
+  bbfmm-follow-node-determined = coincide r r' (followTold dimension order vector node answer)
 
 module _ (dimension number : ℕ) (vector : List ℤ) (r r' : ℕ × List ℤ) where
   bbfmm-reference-vector-determined : r ≡ referenceTold dimension number vector → r' ≡ referenceTold dimension number vector → r ≡ r'

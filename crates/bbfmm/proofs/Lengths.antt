@@ -47,7 +47,7 @@ module _ {A : Type 0} where
   stored-one (x ∷ []) a e = refl
   stored-one (x ∷ y ∷ l) a e = absurd (omega arith)
 
-  stored-two : (l : List A) (a b : A) → length l ≡ 2 → set (set l 0 a) 1 b ≡ a ∷ b ∷ []
+  pub stored-two : (l : List A) (a b : A) → length l ≡ 2 → set (set l 0 a) 1 b ≡ a ∷ b ∷ []
   stored-two [] a b e = absurd (omega arith)
   stored-two (x ∷ l) a b e = ap (λ (t : List A). a ∷ t) (stored-one l b (omega arith))
 

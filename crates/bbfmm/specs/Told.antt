@@ -11,6 +11,8 @@ use Rattle.vectors.specs.declared.Vector.{Vector}
 use Rattle.vectors.specs.declared.Known.{Known}
 use Rattle.vectors.specs.Vectors.{sizes}
 use Rattle.vectors.specs.LookUps.{entries, lookUpNumber, knownOf, referenceNumber, referenceAt}
+use Rattle.turn.specs.declared.follow.Moves.{Moves}
+use Rattle.turn.specs.Follow.{followNumber, movesOf}
 use Rattle.aca_lines.specs.Largest.{argmax, counts}
 use Rattle.choices.specs.Argmax.{argmaxNumber}
 use Rattle.choices.specs.Cutoff.{cutoff, cutoffNumber}
@@ -25,6 +27,12 @@ knownValues k = k .index ∷ k .case ∷ k .reference ∷ cond (k .near) 1 0 ∷
 
 unfoldable pub lookUpTold : (D : ℕ) → Vector → (answer : List ℕ) → ℕ × List ℕ
 lookUpTold D v = written (lookUpNumber D (sizes (entries v))) (knownValues (knownOf D (entries v)))
+
+abbrev pub movesValues : Moves → List ℕ
+movesValues m = m .image ∷ m .origin ∷ []
+
+unfoldable pub followTold : (D p : ℕ) → Vector → (n : ℕ) → (answer : List ℕ) → ℕ × List ℕ
+followTold D p v n = written (followNumber D p (sizes (entries v)) n) (movesValues (movesOf D p (entries v) n))
 
 abbrev pub vectorValues : Vector → List ℤ
 vectorValues v = v .0 ∷ v .1 ∷ v .2 ∷ []

@@ -1,13 +1,15 @@
-// Turning a block: looking up a vector, reference vectors, and the two tables.
+// Turning a block: looking up a vector, following a node, reference vectors, and the two tables.
 ghost use mathlib.Core.Path.{_≡_};
 ghost use Rattle.turn.specs.Tables.{tableCall};
 ghost use Rattle.turn.specs.Turned.{turned, returned};
-ghost use Rattle.bbfmm.specs.Told.{lookUpTold, referenceTold};
+ghost use Rattle.bbfmm.specs.Told.{lookUpTold, followTold, referenceTold};
 use crate::answers::with_length;
+use turn::Followed;
 use turn::LookUp;
 use turn::Reference;
 use turn::Vector;
 use turn::combined_permutation;
+use turn::follow_node;
 use turn::inverse_permutation;
 use turn::look_up;
 use turn::reference_vector;
@@ -33,6 +35,34 @@ pub extern "C" fn bbfmm_look_up(
                 answer[1] = known.case;
                 answer[2] = known.reference;
                 answer[3] = known.near as usize;
+                return 0;
+            }
+            common::WRONG_LENGTH
+        }
+    }
+}
+
+// Where a node goes under the table of the vector's case, and which node comes to its place.
+#[no_mangle]
+pub extern "C" fn bbfmm_follow_node(
+    dimension: usize,
+    order: usize,
+    x: i32,
+    y: i32,
+    z: i32,
+    node: usize,
+    answer: &mut [usize],
+) -> u8
+    ensures { λ r. ⌜ (r, now (answer .exit)) ≡ followTold dimension order (x, y, z) node (now (answer .entry)) ⌝ }
+{
+    let is_fit = answer.len() == 2;
+    let found = follow_node(dimension, order, Vector(x, y, z), node);
+    match found {
+        Followed::Refused(number) => with_length(number, is_fit),
+        Followed::Found(moves) => {
+            if is_fit {
+                answer[0] = moves.image;
+                answer[1] = moves.origin;
                 return 0;
             }
             common::WRONG_LENGTH

@@ -1,6 +1,6 @@
 -- A vector held as digits, three more than its entries, is the vector. Assumes nothing.
 use mathlib.Core.Path.{_≡_, refl, sym, ap, _∙_}
-use mathlib.Core.Bool.{Bool, true, false, _&&_, and-eq-true-iff}
+use mathlib.Core.Bool.{Bool, true, false, _&&_, and-eq-true-iff, cond}
 use Prim.Native.Nat.{ℕ, zero, suc, _+_, _-_, _*_, _<_, _≤_}
 use native.Mathlib.Nat.{zero-add, zero-mul, pow-le-pow-right}
 use native.Mathlib.Omega.{arith}
@@ -20,14 +20,17 @@ use Rattle.common.proofs.Tests.{each-at}
 use Rattle.common.proofs.Digits.{fromDigits-cong, fromDigits-below}
 use Rattle.vectors.proofs.Sizes.{at-three}
 use Rattle.vectors.specs.declared.Vector.{Vector}
-use Rattle.vectors.specs.declared.Three.{Three}
+use Rattle.common.specs.declared.Three.{Three}
 use Rattle.vectors.specs.declared.Known.{Known}
 use Rattle.vectors.specs.declared.LookUp.the-variants.{Refused, Found}
+use Rattle.vectors.specs.declared.Turn.{Turn}
+use Rattle.vectors.specs.declared.Turning.the-variants as turning
 use Rattle.common.specs.Factorials.{factorial}
 use Rattle.vectors.specs.Order.{axisOrder}
-use Rattle.vectors.specs.Vectors.{sizes, sign, index, case, atMost, near, referenceOf}
-use Rattle.vectors.specs.LookUps.{entries, lookUpNumber, knownOf, toldLookUp, lookUp}
-use Rattle.vectors.specs.Working.{shifted, unshifted, sizeOf, signOf, three, vectorOf, eachOf, digitsNumber, digitNumber, Small, Past}
+use Rattle.vectors.specs.Vectors.{sizes, sign, isNegative, index, case, atMost, near, referenceOf}
+use Rattle.vectors.specs.LookUps.{entries, lookUpNumber, knownOf, toldLookUp, lookUp, turnOf, toldTurning, turningCall}
+use Rattle.common.specs.Threes.{three, Small}
+use Rattle.vectors.specs.Working.{shifted, unshifted, sizeOf, signOf, vectorOf, eachOf, digitsOf, digitsNumber, areEntries, areZeros, Past}
 
 -- ENTRIES AND THEIR BITS
 
@@ -119,25 +122,20 @@ module _ (d : ℕ) (l : d < 7) where
   index-told : natAbs (unshifted d +ℤ pos 3) ≡ d
   index-told = eqb-true _ _ (and-eq-true-iff (eqb (sign (unshifted d)) (signOf d)) _ .0 rest-told .1)
 
--- NUMBERS OF ONE, TWO AND THREE DIGITS
-
-module _ (b D : ℕ) (f : ℕ → ℕ) where
-  pub fromDigits-one : D ≡ 1 → f 0 ≡ fromDigits b D f
-  unfolding fromDigits
-  fromDigits-one e = rw (e, zero-mul) (omega arith)
-
-  pub fromDigits-two : D ≡ 2 → f 0 * b + f 1 ≡ fromDigits b D f
-  unfolding fromDigits
-  fromDigits-two e = rw (e, zero-mul) (rw (zero-add (f 0)))
-
-  pub fromDigits-three : D ≡ 3 → (f 0 * b + f 1) * b + f 2 ≡ fromDigits b D f
-  unfolding fromDigits
-  fromDigits-three e = rw (e, zero-mul) (rw (zero-add (f 0)))
+pub negative-told : (d : ℕ) → d < 7 → ltb d 3 ≡ isNegative (unshifted d)
+negative-told zero l = refl
+negative-told (suc zero) l = refl
+negative-told (suc (suc zero)) l = refl
+negative-told (suc (suc (suc zero))) l = refl
+negative-told (suc (suc (suc (suc zero)))) l = refl
+negative-told (suc (suc (suc (suc (suc zero))))) l = refl
+negative-told (suc (suc (suc (suc (suc (suc zero)))))) l = refl
+negative-told (suc (suc (suc (suc (suc (suc (suc d))))))) l = absurd (omega arith)
 
 -- A VECTOR OF THREE DIGITS
 
 module _ (D : ℕ) (d : Three) (ok : Small D 7 d) where
-  sizes-held : sizes (vectorOf d) ≡ three (eachOf sizeOf d)
+  pub sizes-held : sizes (vectorOf d) ≡ three (eachOf sizeOf d)
   sizes-held = fun-ext _ _ held
     where
       held : (a : ℕ) → sizes (vectorOf d) a ≡ three (eachOf sizeOf d) a
@@ -211,9 +209,6 @@ module _ (D : ℕ) (d : Three) (ok : Small D 7 d) where
 
 -- THE NUMBER
 
-abbrev pub digitsOf : Vector → Three
-digitsOf v = (shifted (v .0), shifted (v .1), shifted (v .2))
-
 -- three digits of three entries, read from their bits
 pub digits-held : (v : Vector) (a b c : ℕ) → SFits w32 (v .0) → SFits w32 (v .1) → SFits w32 (v .2) →
     a ≡ shifted (toZ w32 (ofZ w32 (v .0))) →
@@ -247,16 +242,28 @@ number-held D v =
           (λ a l. zero-held v (D + a) (omega arith)),
     )
 
--- as the program finds it: one number a digit, the lowest of them
-pub number-by : (D : ℕ) (d : Three) → 1 ≤ D → D ≤ 3 → d .0 < 8 → d .1 < 8 → d .2 < 8 →
-    lower (digitNumber false (d .0)) (lower (digitNumber (ltb D 2) (d .1)) (digitNumber (ltb D 3) (d .2))) ≡ digitsNumber D (three d)
-unfolding lower digitNumber digitsNumber each
+-- as the program finds it: the first digits, then those past them
+byTests : (D x y z : ℕ) → ℕ
+byTests D x y z = cond (areEntries D (x, y, z)) (cond (areZeros D (x, y, z)) 0 6) 4
+
+number-by : (D : ℕ) (d : Three) → 1 ≤ D → D ≤ 3 → d .0 < 8 → d .1 < 8 → d .2 < 8 → byTests D (d .0) (d .1) (d .2) ≡ digitsNumber D (three d)
+unfolding byTests areEntries areZeros digitsNumber each
 number-by D d l m a b c =
     eqb-true _ _
-    (at-three 8
-    (λ D x y z. eqb (lower (digitNumber false x) (lower (digitNumber (ltb D 2) y) (digitNumber (ltb D 3) z)))
-    (digitsNumber D (three (x, y, z)))) refl
-    D (d .0) (d .1) (d .2) l m a b c)
+    (at-three 8 (λ D x y z. eqb (byTests D x y z) (digitsNumber D (three (x, y, z)))) refl D (d .0) (d .1) (d .2) l m a b c)
+
+module _ (D : ℕ) (d : Three) (l : 1 ≤ D) (m : D ≤ 3) (h : (d .0 < 8) × (d .1 < 8) × (d .2 < 8)) where
+  pub number-entry : areEntries D d ≡ false → 4 ≡ digitsNumber D (three d)
+  unfolding byTests
+  number-entry e = rw e at (number-by D d l m (h .0) (h .1) (h .2))
+
+  pub number-past : areEntries D d ≡ true → areZeros D d ≡ false → 6 ≡ digitsNumber D (three d)
+  unfolding byTests
+  number-past e e' = rw (e, e') at (number-by D d l m (h .0) (h .1) (h .2))
+
+  pub number-none : areEntries D d ≡ true → areZeros D d ≡ true → 0 ≡ digitsNumber D (three d)
+  unfolding byTests
+  number-none e e' = rw (e, e') at (number-by D d l m (h .0) (h .1) (h .2))
 
 pub number-low : (D : ℕ) (d : ℕ → ℕ) → D < 1 → 1 ≡ digitsNumber D d
 unfolding digitsNumber
@@ -310,6 +317,20 @@ vector-held D v ok = fun-ext _ _ held
     held (suc (suc zero)) = whole (v .2) (ok .third)
     held (suc (suc (suc a))) = refl
 
+-- how the vector turns its reference, as the program finds it from the digits
+module _ (D : ℕ) (d : Three) (ok : Small D 7 d) where
+  abbrev turned : (a b c : Bool) (k : ℕ) → Turn
+  turned a b c k = record { first = a; second = b; third = c; order = k }
+
+  pub turn-held : (k : ℕ) → k ≡ axisOrder D (sizes (vectorOf d)) →
+      turned (ltb (d .0) 3) (ltb (d .1) 3) (ltb (d .2) 3) k ≡ turnOf D (vectorOf d)
+  unfolding turnOf
+  turn-held k e =
+      ap (λ (a : Bool). turned a (ltb (d .1) 3) (ltb (d .2) 3) k) (negative-told (d .0) (ok .first))
+      ∙ ap (λ (b : Bool). turned (isNegative (unshifted (d .0))) b (ltb (d .2) 3) k) (negative-told (d .1) (ok .second))
+      ∙ ap (λ (c : Bool). turned (isNegative (unshifted (d .0))) (isNegative (unshifted (d .1))) c k) (negative-told (d .2) (ok .third))
+      ∙ ap (turned (isNegative (unshifted (d .0))) (isNegative (unshifted (d .1))) (isNegative (unshifted (d .2)))) e
+
 -- THE ANSWER
 
 pub refused-answer : (D n : ℕ) (v : Vector) → n ≡ digitsNumber D (three (digitsOf v)) → (n ≡ 0 → ⊥) → toldLookUp (Refused n) ≡ lookUp D v
@@ -320,3 +341,13 @@ pub found-answer : (D : ℕ) (v : Vector) (r : Known) → digitsNumber D (three 
     toldLookUp (Found r) ≡ lookUp D v
 unfolding lookUp
 found-answer D v r e h = rw (← number-held D v, e, h, vector-held D v (taken D (digitsOf v) e .0))
+
+pub refused-turning : (D n : ℕ) (v : Vector) → n ≡ digitsNumber D (three (digitsOf v)) → (n ≡ 0 → ⊥) →
+    toldTurning (turning.Refused n) ≡ turningCall D v
+unfolding turningCall
+refused-turning D n v e h = rw (← number-held D v, ← e) (answer-refused n _ h)
+
+pub found-turning : (D : ℕ) (v : Vector) (t : Turn) → digitsNumber D (three (digitsOf v)) ≡ 0 → t ≡ turnOf D (vectorOf (digitsOf v)) →
+    toldTurning (turning.Found t) ≡ turningCall D v
+unfolding turningCall
+found-turning D v t e h = rw (← number-held D v, e, h, vector-held D v (taken D (digitsOf v) e .0))

@@ -11,11 +11,12 @@ use Rattle.common.specs.Tests.{each, count}
 use Rattle.common.specs.Digits.{fromDigits, digit}
 use Rattle.common.proofs.Cases.{by-bool, by-lt}
 use Rattle.common.proofs.Tests.{each-at}
-use Rattle.vectors.specs.declared.Three.{Three}
+use Rattle.common.specs.declared.Three.{Three}
 use Rattle.common.specs.Factorials.{factorial}
 use Rattle.vectors.specs.Order.{skip, axis, largest, axisOrder, sorted}
 use Rattle.vectors.specs.Vectors.{atMost, isReference, farReference, referenceOf}
-use Rattle.vectors.specs.Working.{three, swap, Small, Past}
+use Rattle.common.specs.Threes.{three, Small}
+use Rattle.vectors.specs.Working.{swap, Past}
 
 -- a test that passes for each dimension and each three numbers below n
 abbrev pub everywhere : ℕ → (ℕ → ℕ → ℕ → ℕ → Bool) → Bool

@@ -1,4 +1,4 @@
--- What looking up a vector answers, and what asking for a reference vector answers.
+-- What looking up a vector answers, how a vector turns its reference, and what asking for a reference vector answers.
 use Prim.Native.Nat.{ℕ, zero, suc, _+_, _-_}
 use mathlib.Core.Bool.{cond}
 use mathlib.Core.Option.{Option, none, some}
@@ -10,9 +10,13 @@ use Rattle.vectors.specs.declared.Vector.{Vector}
 use Rattle.vectors.specs.declared.Known.{Known}
 use Rattle.vectors.specs.declared.LookUp.{LookUp}
 use Rattle.vectors.specs.declared.LookUp.the-variants as look
+use Rattle.vectors.specs.declared.Turn.{Turn}
+use Rattle.vectors.specs.declared.Turning.{Turning}
+use Rattle.vectors.specs.declared.Turning.the-variants as turning
 use Rattle.vectors.specs.declared.Reference.{Reference}
 use Rattle.vectors.specs.declared.Reference.the-variants as refer
-use Rattle.vectors.specs.Vectors.{sizes, index, case, atMost, near, references, entry, reference}
+use Rattle.vectors.specs.Order.{axisOrder}
+use Rattle.vectors.specs.Vectors.{sizes, isNegative, index, case, atMost, near, references, entry, reference}
 
 -- the entries of the code's vector by axis, and 0 past the third
 abbrev pub entries : Vector → (ℕ → ℤ)
@@ -39,6 +43,19 @@ toldLookUp (look.Refused n) = (n, none)
 
 unfoldable pub lookUp : (D : ℕ) → Vector → ℕ × Option Known
 lookUp D v = answer (lookUpNumber D (sizes (entries v))) (knownOf D (entries v))
+
+-- HOW A VECTOR TURNS its reference: which of its entries are negative, and the number of the order of its axes by falling size
+
+unfoldable pub turnOf : (D : ℕ) → (ℕ → ℤ) → Turn
+turnOf D v =
+    record { first = isNegative (v 0); second = isNegative (v 1); third = isNegative (v 2); order = axisOrder D (sizes v) }
+
+abbrev pub toldTurning : Turning → ℕ × Option Turn
+toldTurning (turning.Found t) = (0, some t)
+toldTurning (turning.Refused n) = (n, none)
+
+unfoldable pub turningCall : (D : ℕ) → Vector → ℕ × Option Turn
+turningCall D v = answer (lookUpNumber D (sizes (entries v))) (turnOf D (entries v))
 
 -- REFERENCE VECTORS
 

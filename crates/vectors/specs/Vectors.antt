@@ -2,7 +2,7 @@
 use Prim.Native.Nat.{ℕ, _+_, _-_, _*_, _^_}
 use mathlib.Core.Bool.{Bool, cond, _&&_}
 use mathlib.Core.List.{List}
-use lib.Dec.{leb}
+use lib.Dec.{leb, eqb}
 use lib.IntN.{ℤ, pos, negsuc, natAbs, _+ℤ_}
 use lib.ListN.{getD}
 use Rattle.common.specs.Tests.{each, those, count}
@@ -21,6 +21,9 @@ index D v = fromDigits 7 D (λ a. natAbs (v a +ℤ pos 3))
 abbrev pub sign : ℤ → ℕ
 sign (pos n) = 1
 sign (negsuc n) = 0
+
+abbrev pub isNegative : ℤ → Bool
+isNegative e = eqb (sign e) 0
 
 -- sign case times D! plus order; axis 0 is the sign case's most significant digit
 unfoldable pub case : (D : ℕ) → (ℕ → ℤ) → ℕ

@@ -1,12 +1,15 @@
 -- What the private functions speak of; no public contract cites it. An entry is held as a digit, three more than it is.
 use Prim.Native.Nat.{ℕ, zero, suc, _+_, _-_, _<_, _≤_, min}
 use mathlib.Core.Path.{_≡_}
-use mathlib.Core.Bool.{Bool, cond}
+use mathlib.Core.Bool.{Bool, cond, _&&_, _||_}
 use lib.Dec.{leb, ltb, eqb}
 use lib.IntN.{ℤ, pos, natAbs, _+ℤ_, _-ℤ_}
 use Rattle.common.specs.Tests.{each}
 use Rattle.common.specs.Refusals.{noDimension, noEntry, notZero, unless, isDimension}
-use Rattle.vectors.specs.declared.Three.{Three}
+use Rattle.common.specs.Threes.{three}
+use Rattle.common.specs.declared.Three.{Three}
+use Rattle.vectors.specs.declared.Vector.{Vector}
+use Rattle.vectors.specs.declared.Kept.{Kept}
 
 -- an entry from -3 to 3 as a digit; 7 for any other
 unfoldable pub shifted : ℤ → ℕ
@@ -21,13 +24,6 @@ sizeOf d = (d - 3) + (3 - d)
 
 abbrev pub signOf : ℕ → ℕ
 signOf d = min 1 (d - 2)
-
--- three numbers by axis, and 0 past them
-abbrev pub three : Three → (ℕ → ℕ)
-three t zero = t .0
-three t (suc zero) = t .1
-three t (suc (suc zero)) = t .2
-three t (suc (suc (suc a))) = 0
 
 -- three digits as a vector
 abbrev pub vectorOf : Three → (ℕ → ℤ)
@@ -46,22 +42,25 @@ digitsNumber D d =
     unless (isDimension D) noDimension
     (unless (each D (λ a. ltb (d a) 7)) noEntry (unless (each (3 - D) (λ a. eqb (d (D + a)) 3)) notZero 0))
 
--- what one digit brings, of an axis past the dimension or not
-unfoldable pub digitNumber : (past : Bool) → ℕ → ℕ
-digitNumber past d = cond past (unless (eqb d 3) notZero 0) (unless (ltb d 7) noEntry 0)
+-- as the program asks it: the first digits are those of entries, and those past them are those of 0
+unfoldable pub areEntries : (D : ℕ) → Three → Bool
+areEntries D d = (ltb (d .0) 7 && (ltb D 2 || ltb (d .1) 7)) && (ltb D 3 || ltb (d .2) 7)
+
+unfoldable pub areZeros : (D : ℕ) → Three → Bool
+areZeros D d = (leb 2 D || eqb (d .1) 3) && (leb 3 D || eqb (d .2) 3)
 
 -- 1 where the second of two sizes comes first, as the larger
 abbrev pub swap : ℕ → ℕ → ℕ
 swap a b = min 1 (b - a)
 
--- a dimension, and three numbers below a bound; those past the dimension are a given one
-pub record Small (D most : ℕ) (t : Three) : Type 0 where
-  pub dimension-least : 1 ≤ D
-  pub dimension-most : D ≤ 3
-  pub first : t .0 < most
-  pub second : t .1 < most
-  pub third : t .2 < most
-
+-- past the dimension the numbers are a given one
 pub record Past (D given : ℕ) (t : Three) : Type 0 where
   pub second : D < 2 → t .1 ≡ given
   pub third : D < 3 → t .2 ≡ given
+
+-- a vector as three digits, and the refusal that they bring, or 0
+abbrev pub digitsOf : Vector → Three
+digitsOf v = (shifted (v .0), shifted (v .1), shifted (v .2))
+
+unfoldable pub keptOf : (D : ℕ) → Vector → Kept
+keptOf D v = record { refused = digitsNumber D (three (digitsOf v)); digits = digitsOf v }

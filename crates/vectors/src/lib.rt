@@ -2,12 +2,14 @@
 ghost use mathlib.Core.Path.{_≡_};
 ghost use Prim.Native.Nat.{_+_, _*_, _<_, _≤_, min, max};
 ghost use Rattle.common.specs.Digits.{fromDigits};
+ghost use Rattle.common.specs.Threes.{three, Small};
 ghost use Rattle.common.specs.Factorials.{factorial};
 ghost use Rattle.vectors.specs.Order.{axisOrder};
 ghost use Rattle.vectors.specs.Vectors.{referenceOf};
-ghost use Rattle.vectors.specs.LookUps.{toldLookUp, lookUp, knownOf, toldReference, referenceCall};
-ghost use Rattle.vectors.specs.Working.{shifted as shiftedTo, sizeOf, signOf, three, vectorOf, eachOf, swap};
-ghost use Rattle.vectors.specs.Working.{digitsNumber, digitNumber, Small, Past};
+ghost use Rattle.vectors.specs.LookUps.{toldLookUp, lookUp, knownOf, turnOf, toldTurning, turningCall, toldReference, referenceCall};
+ghost use Rattle.vectors.specs.Working.{shifted as shiftedTo, sizeOf, signOf, vectorOf, eachOf, swap};
+ghost use Rattle.vectors.specs.Working.{digitsNumber, areEntries, areZeros, keptOf, Past};
+use common::Three;
 
 // A vector between two blocks: one whole number an axis, 0 past the dimension.
 pub struct Vector(pub i32, pub i32, pub i32);
@@ -25,13 +27,30 @@ pub enum LookUp {
     Found(Known),
 }
 
+// How a vector turns its reference: which of its entries are negative, so that the axis is reversed, and the number of the order of
+// its axes by falling size.
+pub struct Turn {
+    pub first: bool,
+    pub second: bool,
+    pub third: bool,
+    pub order: usize,
+}
+
+pub enum Turning {
+    Refused(u8),
+    Found(Turn),
+}
+
 pub enum Reference {
     Refused(u8),
     Found(Vector),
 }
 
-// A number for each of three axes.
-struct Three(usize, usize, usize);
+// A vector as three digits, and the refusal that it brings, or 0.
+struct Kept {
+    refused: u8,
+    digits: Three,
+}
 
 const REFERENCES_1: [Vector; 2] = [Vector(2, 0, 0), Vector(3, 0, 0)];
 
@@ -104,21 +123,6 @@ fn signs_of(d: Three) -> Three
     Three(sign_of(d.0), sign_of(d.1), sign_of(d.2))
 }
 
-// The number with these digits, one for each axis of the dimension.
-fn number_of(base: usize, dimension: usize, d: Three) -> usize
-    requires { ⌜ (base ≤ 7) × Small dimension 7 d ⌝ }
-    ensures { λ r. ⌜ r ≡ fromDigits base dimension (three d) ⌝ }
-{
-    if dimension < 2 {
-        return d.0;
-    }
-    let two = d.0 * base + d.1;
-    if dimension < 3 {
-        return two;
-    }
-    two * base + d.2
-}
-
 // 1 where the second of two sizes comes before the first, as the larger.
 fn swapped(a: usize, b: usize) -> usize
     ensures { λ r. ⌜ r ≡ swap a b ⌝ }
@@ -153,7 +157,7 @@ fn case_of(dimension: usize, d: Three, s: Three) -> usize
     requires { ⌜ Small dimension 7 d × Small dimension 4 s ⌝ }
     ensures { λ r. ⌜ r ≡ fromDigits 2 dimension (three (eachOf signOf d)) * factorial dimension + axisOrder dimension (three s) ⌝ }
 {
-    let signs = number_of(2, dimension, signs_of(d));
+    let signs = common::number_of(2, dimension, signs_of(d));
     signs * common::factorial_of(dimension) + axis_order_of(dimension, s)
 }
 
@@ -202,24 +206,25 @@ fn known_of(dimension: usize, d: Three) -> Known
 {
     let s = sizes_of(d);
     Known {
-        index: number_of(7, dimension, d),
+        index: common::number_of(7, dimension, d),
         case: case_of(dimension, d, s),
         reference: reference_of(dimension, s),
         near: largest_of(s) < 2,
     }
 }
 
-// The refusal that one digit brings, or 0: past the dimension every entry is 0.
-fn digit_number(is_past: bool, d: usize) -> u8
-    ensures { λ r. ⌜ r ≡ digitNumber «is_past» d ⌝ }
+// The first digits, as many as the dimension, are those of entries. All are looked at, so that there is no branch.
+fn are_entries(dimension: usize, d: Three) -> bool
+    ensures { λ r. ⌜ r ≡ areEntries dimension d ⌝ }
 {
-    if is_past {
-        if d == 3 { 0 } else { common::NOT_ZERO }
-    } else if d < 7 {
-        0
-    } else {
-        common::NO_ENTRY
-    }
+    (d.0 < 7) & ((dimension < 2) | (d.1 < 7)) & ((dimension < 3) | (d.2 < 7))
+}
+
+// The digits past them are those of 0.
+fn are_zeros(dimension: usize, d: Three) -> bool
+    ensures { λ r. ⌜ r ≡ areZeros dimension d ⌝ }
+{
+    ((2 <= dimension) | (d.1 == 3)) & ((3 <= dimension) | (d.2 == 3))
 }
 
 // The lowest refusal that the digits of a vector bring, or 0.
@@ -233,23 +238,57 @@ fn digits_number(dimension: usize, d: Three) -> u8
     if 3 < dimension {
         return common::NO_DIMENSION;
     }
-    let rest = common::lower_of(
-        digit_number(dimension < 2, d.1),
-        digit_number(dimension < 3, d.2),
-    );
-    common::lower_of(digit_number(false, d.0), rest)
+    if !are_entries(dimension, d) {
+        return common::NO_ENTRY;
+    }
+    if !are_zeros(dimension, d) {
+        return common::NOT_ZERO;
+    }
+    0
+}
+
+fn hold(dimension: usize, vector: Vector) -> Kept
+    ensures { λ r. ⌜ r ≡ keptOf dimension vector ⌝ }
+{
+    let digits = Three(shifted(vector.0), shifted(vector.1), shifted(vector.2));
+    Kept {
+        refused: digits_number(dimension, digits),
+        digits,
+    }
 }
 
 // What is known of a vector: its index, its case, its reference and whether it is near.
 pub fn look_up(dimension: usize, vector: Vector) -> LookUp
     ensures { λ r. ⌜ toldLookUp r ≡ lookUp dimension vector ⌝ }
 {
-    let d = Three(shifted(vector.0), shifted(vector.1), shifted(vector.2));
-    let refused = digits_number(dimension, d);
-    if refused != 0 {
-        return LookUp::Refused(refused);
+    let h = hold(dimension, vector);
+    if h.refused != 0 {
+        return LookUp::Refused(h.refused);
     }
-    LookUp::Found(known_of(dimension, d))
+    LookUp::Found(known_of(dimension, h.digits))
+}
+
+fn turn_of(dimension: usize, d: Three) -> Turn
+    requires { ⌜ Small dimension 7 d ⌝ }
+    ensures { λ r. ⌜ r ≡ turnOf dimension (vectorOf d) ⌝ }
+{
+    Turn {
+        first: d.0 < 3,
+        second: d.1 < 3,
+        third: d.2 < 3,
+        order: axis_order_of(dimension, sizes_of(d)),
+    }
+}
+
+// How a vector turns its reference, without what else is known of it.
+pub fn find_turn(dimension: usize, vector: Vector) -> Turning
+    ensures { λ r. ⌜ toldTurning r ≡ turningCall dimension vector ⌝ }
+{
+    let h = hold(dimension, vector);
+    if h.refused != 0 {
+        return Turning::Refused(h.refused);
+    }
+    Turning::Found(turn_of(dimension, h.digits))
 }
 
 // The reference vector with that number.

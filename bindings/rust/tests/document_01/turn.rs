@@ -1,6 +1,6 @@
 //! Vectors, references and tables.
 
-use bbfmm::{combined_permutation, inverse_permutation, look_up, reference_vector};
+use bbfmm::{combined_permutation, follow_node, inverse_permutation, look_up, reference_vector};
 
 use crate::draw::Draw;
 use crate::held::Tally;
@@ -28,6 +28,35 @@ fn every_vector_is_looked_up() {
         }
     }
     tally.reached("look_up", &[0, 1, 4, 6]);
+}
+
+#[test]
+fn nodes_are_followed() {
+    let mut draw = Draw::new(16);
+    let mut tally = Tally::default();
+    for _ in 0..20_000 {
+        let dimension = draw.number(1..=3);
+        let order = draw.order(6);
+        let nodes = order.min(17).pow(dimension.min(3) as u32);
+        let most = dimension.min(3);
+        let mut vector = [0; 3];
+        for (axis, entry) in vector.iter_mut().enumerate() {
+            *entry = match draw.below(60) {
+                0 => draw.one_of(&ENTRIES),
+                _ if axis < most => draw.below(7) as i32 - 3,
+                _ => 0,
+            };
+        }
+        let node = draw.number(0..=nodes.saturating_sub(1));
+        let answer = follow_node(dimension, order, vector, node);
+        let ruled = rule::follow_node(dimension, order, vector, node);
+        let case = (dimension, order, vector, node);
+        if let Some(expected) = tally.number(&case, &answer, ruled) {
+            let moves = answer.expect("it is no refusal");
+            assert_eq!((moves.image, moves.origin), expected, "{case:?}");
+        }
+    }
+    tally.reached("follow_node", &[0, 1, 2, 4, 5, 6]);
 }
 
 #[test]

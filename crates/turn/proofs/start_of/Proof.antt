@@ -17,21 +17,21 @@ abbrev μ-loop : tie.MeasureT-loop
 μ-loop dimension order case start₀ axis₀ start axis = dimension - axis
 
 -- one turn: the next start, and its bound
-module _ (c : tie.After-first-index Inv-loop μ-loop) where
+module _ (c : tie.After-reverse Inv-loop μ-loop) where
   at-loop : tie.At-loop Inv-loop μ-loop
   at-loop = c .before .before .before
 
-  next : at-loop .loop .start * at-loop .before .args .order + c .first-index .result
+  next : at-loop .loop .start * at-loop .before .args .order + c .reverse .result
       ≡ fromDigits (at-loop .before .args .order) (at-loop .loop .axis + 1)
       (turnedIndex (at-loop .before .args .dimension) (at-loop .before .args .order) (at-loop .before .args .case) 0)
   unfolding at-loop
   next =
       let a = at-loop .before .args in
       start-next (a .dimension) (a .order) (a .case) (at-loop .before .pre) (at-loop .loop .axis) (at-loop .loop .start)
-      (c .first-index .result)
-      (c .before .is-negative .result) (at-loop .loop .inv .1) (c .before .is-negative .ensures) (c .first-index .ensures)
+      (c .reverse .result)
+      (c .before .is-negative .result) (at-loop .loop .inv .1) (c .before .is-negative .ensures) (c .reverse .ensures)
 
-  most : at-loop .loop .start * at-loop .before .args .order + c .first-index .result ≤ 4096
+  most : at-loop .loop .start * at-loop .before .args .order + c .reverse .result ≤ 4096
   unfolding at-loop
   most =
       let a = at-loop .before .args in
@@ -44,8 +44,8 @@ loop-holds c = (omega arith, refl)
 is-negative-requires : tie.Need-is-negative-requires Inv-loop μ-loop
 is-negative-requires c κs = search needs
 
-first-index-requires : tie.Need-first-index-requires Inv-loop μ-loop
-first-index-requires c κs = search needs
+reverse-requires : tie.Need-reverse-requires Inv-loop μ-loop
+reverse-requires c κs = search needs
 
 mul-start : tie.Need-mul-start Inv-loop μ-loop
 unfolding at-loop
@@ -79,7 +79,7 @@ start-of-spec =
     μ-loop
     loop-holds
     is-negative-requires
-    first-index-requires
+    reverse-requires
     mul-start
     add-start
     add-axis

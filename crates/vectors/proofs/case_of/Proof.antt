@@ -3,8 +3,9 @@ use Prim.Native.Nat.{_*_, _≤_}
 use native.Mathlib.Nat.{mul-le-mul}
 use native.Mathlib.Omega.{arith}
 use borrow.Author.Needs.{needs}
-use Rattle.vectors.specs.Working.{three}
+use Rattle.common.specs.Threes.{three}
 use Rattle.common.proofs.Factorials.{factorial-most}
+use Rattle.common.proofs.Threes.{small-more}
 use Rattle.vectors.proofs.Orders.{axisOrder-below}
 use Rattle.vectors.proofs.Held.{signs-small, signs-most}
 use Rattle.vectors.proofs.case_of.Statement.{statement}
@@ -14,11 +15,12 @@ signs-of-requires : tie.Need-signs-of-requires
 signs-of-requires c κs = search needs
 
 number-of-requires : tie.Need-number-of-requires
-number-of-requires c κs = let s = c .before in (
-  omega arith,
-  rw (c .signs-of .ensures)
-      (signs-small (s .args .dimension) (s .args .d) (s .pre .0)),
-)
+number-of-requires c κs =
+    let s = c .before in (
+      omega arith,
+      rw (c .signs-of .ensures)
+          (small-more (s .args .dimension) 7 16 _ (omega arith) (signs-small (s .args .dimension) (s .args .d) (s .pre .0))),
+    )
 
 factorial-of-requires : tie.Need-factorial-of-requires
 factorial-of-requires c κs = c .before .before .pre .0 .dimension-most

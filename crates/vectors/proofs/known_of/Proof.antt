@@ -3,6 +3,7 @@ use mathlib.Core.Path.{_≡_}
 use native.Mathlib.Omega.{arith}
 use borrow.Author.Needs.{needs}
 use Rattle.vectors.specs.Working.{eachOf, sizeOf}
+use Rattle.common.proofs.Threes.{small-more}
 use Rattle.vectors.proofs.Sizes.{near-by}
 use Rattle.vectors.proofs.Held.{sizes-small, sizes-past, entry-held}
 use Rattle.vectors.proofs.known_of.Statement.{statement}
@@ -12,7 +13,8 @@ sizes-of-requires : tie.Need-sizes-of-requires
 sizes-of-requires c κs = search needs
 
 number-of-requires : tie.Need-number-of-requires
-number-of-requires c κs = (omega arith, c .before .pre .0)
+number-of-requires c κs =
+    let s = c .before in (omega arith, small-more (s .args .dimension) 7 16 (s .args .d) (omega arith) (s .pre .0))
 
 case-of-requires : tie.Need-case-of-requires
 case-of-requires c κs =

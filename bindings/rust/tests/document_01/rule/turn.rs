@@ -125,6 +125,30 @@ fn turned(order: usize, axes: &[usize], signs: usize, from: usize) -> usize {
     node(order, &to)
 }
 
+/// Where one node goes under the vector's case, and which node comes to its place, which is searched
+/// for.
+pub fn follow_node(
+    dimension: usize,
+    order: usize,
+    vector: [i32; 3],
+    node: usize,
+) -> Result<(usize, usize), u8> {
+    let (own, past) = vector.split_at(dimension.min(3));
+    let nodes = nodes_of_block(dimension, order);
+    refusal(&[
+        (6, past.iter().any(|&entry| entry != 0)),
+        (5, node >= nodes),
+        (4, own.iter().any(|entry| !(-3..=3).contains(entry))),
+        bad_order(order),
+        bad_dimension(dimension),
+    ])?;
+    let (_, case, _, _) = look_up(dimension, vector)?;
+    let (axes, signs) = parts(dimension, case);
+    let image = |from: usize| turned(order, &axes, signs, from);
+    let origin = (0..nodes).find(|&from| image(from) == node);
+    Ok((image(node), origin.expect("a table has every node")))
+}
+
 /// The combined table of a case and its inverse, which is argsort of it.
 pub fn tables(
     dimension: usize,

@@ -1,19 +1,19 @@
--- `vectors::number_of` meets its contract: by the dimension. Assumes nothing.
+-- `common::number_of` meets its contract: by the dimension. Assumes nothing.
 use Prim.Native.Nat.{ℕ, _+_, _*_, _<_, _≤_}
 use native.Mathlib.Nat.{mul-le-mul}
 use native.Mathlib.Omega.{arith}
-use Rattle.vectors.specs.Working.{three}
-use Rattle.vectors.proofs.Held.{fromDigits-one, fromDigits-two, fromDigits-three}
-use Rattle.vectors.proofs.number_of.Statement.{statement}
-use Rattle.vectors.proofs.number_of.Tie as tie
+use Rattle.common.specs.Threes.{three}
+use Rattle.common.proofs.Threes.{fromDigits-one, fromDigits-two, fromDigits-three}
+use Rattle.common.proofs.number_of.Statement.{statement}
+use Rattle.common.proofs.number_of.Tie as tie
 
--- what the digits number, in a base of at most 7
-module _ (b x y : ℕ) (hb : b ≤ 7) (hx : x < 7) (hy : y < 7) where
-  one-most : x * b ≤ 42
-  one-most = mul-le-mul {n₁ = x} {m₁ = b} {n₂ = 6} {m₂ = 7} (omega arith) hb
+-- what the digits number, in a base of at most 16
+module _ (b x y : ℕ) (hb : b ≤ 16) (hx : x < 16) (hy : y < 16) where
+  one-most : x * b ≤ 240
+  one-most = mul-le-mul {n₁ = x} {m₁ = b} {n₂ = 15} {m₂ = 16} (omega arith) hb
 
-  two-most : (x * b + y) * b ≤ 336
-  two-most = mul-le-mul {n₁ = x * b + y} {m₁ = b} {n₂ = 48} {m₂ = 7} (omega (arith, one-most)) hb
+  two-most : (x * b + y) * b ≤ 4080
+  two-most = mul-le-mul {n₁ = x * b + y} {m₁ = b} {n₂ = 255} {m₂ = 16} (omega (arith, one-most)) hb
 
 returns : tie.Need-returns
 returns c = let s = c .before in fromDigits-one (s .args .base) (s .args .dimension) (three (s .args .d))

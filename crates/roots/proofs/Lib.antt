@@ -1,0 +1,10 @@
+pub mod Newton
+pub mod Halves
+pub mod Patterns
+pub mod Scales
+pub mod Signs
+pub mod Only
+pub mod Closest
+pub mod Values
+pub mod Squares
+pub mod Determined

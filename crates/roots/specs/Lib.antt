@@ -1,0 +1,4 @@
+pub mod Roots
+pub mod Values
+pub mod Facts
+pub mod Working

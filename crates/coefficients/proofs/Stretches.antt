@@ -1,31 +1,19 @@
 -- Loops over axes and nodes fill stretches, one after the other: what each turn adds. Assumes nothing.
-use mathlib.Core.Path.{_≡_, refl, sym, ap, _∙_}
+use mathlib.Core.Path.{_≡_, sym, _∙_}
 use mathlib.Core.List.{List}
-use Prim.Native.Nat.{ℕ, zero, suc, _+_, _-_, _*_, _/_, _%_, _^_, _<_, _≤_}
+use Prim.Native.Nat.{ℕ, _+_, _-_, _*_, _/_, _%_, _^_, _<_, _≤_}
 use native.Mathlib.Nat.{mul-assoc, mul-le-mul, pow-le-pow-right, div-lt-iff-lt-mul}
 use native.Mathlib.Omega.{arith}
 use lib.Arith.{digits-div, digits-mod}
 use lib.Ieee.{Float}
 use lib.ListN.{length}
 use borrow.Rule.Slice.PartMut.{putMid}
-use Rattle.common.specs.Lists.{tabulate}
 use Rattle.common.specs.Matrices.{cell, columnMajor}
 use Rattle.common.proofs.Fill.{stretch-part}
 use Rattle.common.proofs.Limits.{power-one}
-use Rattle.common.proofs.Matrices.{some-rows, cell-at, cell-block}
+use Rattle.common.proofs.Matrices.{some-rows, cell-block}
 use Rattle.common.proofs.Steps.{Stepping, stepping-fits, stepping-more}
 use Rattle.coefficients.specs.Working.{startedOf, gradientOf}
-
--- A COLUMN that a call was lent, and has filled
-
-pub column-lent : (P columns : ℕ) (f : ℕ → ℕ → Float) (before now filled : List Float) (n at : ℕ) (g : ℕ → Float) →
-    length before ≡ columns * P →
-    Stepping 0 columns P (cell P f) before now n at → n < columns → filled ≡ tabulate P g → ((i : ℕ) → i < P → g i ≡ f i n) →
-    Stepping 0 columns P (cell P f) before (putMid at (at + P - at) now filled) (n + 1) (at + P)
-column-lent P columns f before now filled n at g long h l e same =
-    let fits = stepping-fits 0 columns P (cell P f) before now n at h l in
-    stepping-more 0 columns P (cell P f) before now _ n at g h l (omega arith) (λ i b. same i b ∙ sym (cell-at P f i n b))
-    (stretch-part at g now P filled (omega (arith, h .long)) e)
 
 -- THE GRADIENT'S BLOCK of an axis
 

@@ -7,20 +7,19 @@ use mathlib.Core.Logic.{inl, inr}
 use mathlib.Core.Bool.{true, false, false≢true}
 use Prim.Native.Nat.{ℕ, zero, suc, _+_, _-_, _*_, _/_, _%_, _^_, _≤_, _<_}
 use native.Mathlib.Nat.{le-trans, le-of-lt, le-of-eq, lt-of-le-of-lt, lt-of-lt-of-le, lt-irrefl, lt-of-not-le, le-of-suc-le-suc}
-use native.Mathlib.Nat.{eq-or-lt-of-le, eq-zero-or-pos, mul-one, mul-assoc, mul-le-mul-left, mul-le-mul-right, mul-lt-mul-of-pos-right}
+use native.Mathlib.Nat.{eq-or-lt-of-le, eq-zero-or-pos, mul-assoc, mul-le-mul-left, mul-le-mul-right, mul-lt-mul-of-pos-right}
 use native.Mathlib.Nat.{lt-of-mul-lt-mul-right, add-mul, mul-mul-mul-comm, zero-lt-suc, zero-mul}
 use native.Mathlib.Decide.{decLe}
 use native.Mathlib.Omega.{arith}
-use lib.Pow.{pow-add, pow-pos, pow-mono, shl-lt}
+use lib.Pow.{pow-add, pow-mono, shl-lt}
 use lib.Dec.{T, lt→ltb, lit<}
-use lib.IntN.{ℤ}
 use lib.Ieee.{Float, nan, inf, fin, binary64, fits, toBits}
 use lib.Ieee.Exact.{HasValue}
 use lib.Ieee.Positive.{positive}
 use Rattle.roots.specs.Roots.{Nearest, Rounded}
 use Rattle.roots.specs.Facts.{Closest}
 use Rattle.roots.proofs.Newton.{square-le}
-use Rattle.roots.proofs.Patterns.{Steps, Parts, parts}
+use Rattle.roots.proofs.Patterns.{Steps, parts}
 use Rattle.roots.proofs.Scales.{four, four-pos, root-ge}
 use Rattle.roots.proofs.Only.{one-size}
 

@@ -3,5 +3,5 @@ use mathlib.Core.Path.{_≡_, sym, _∙_}
 use lib.Ieee.{Float}
 use Rattle.roots.specs.Values.{SquareRoot}
 
-square-root-determined : (x r r' : Float) → SquareRoot x r → SquareRoot x r' → r ≡ r'
+pub square-root-determined : (x r r' : Float) → SquareRoot x r → SquareRoot x r' → r ≡ r'
 square-root-determined x r r' h k = h .value ∙ sym (k .value)

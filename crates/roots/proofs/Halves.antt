@@ -1,7 +1,7 @@
 -- The arithmetic of `nearest_root`. With h the root of m, cut to a whole number, and the rest (m - h²) * 2 ^ 31 parted by 64h into low and
 -- left: m * 2 ^ 52 + low² is (h * 2 ^ 26 + low)² + left * 2 ^ 21. So the root of m * 2 ^ 52 is h * 2 ^ 26 + low, but for low², which is too
 -- small to count, and for left, which decides the rounding. Assumes nothing.
-use mathlib.Core.Path.{_≡_, refl, sym, ap, _∙_}
+use mathlib.Core.Path.{_≡_, sym}
 use Prim.Native.Nat.{ℕ, zero, suc, _+_, _-_, _*_, _/_, _%_, _^_, _≤_, _<_}
 use native.Mathlib.Nat.{le-trans, lt-irrefl, lt-of-not-le, not-le-of-lt, add-comm, add-assoc, add-left-comm, mul-comm, mul-assoc}
 use native.Mathlib.Nat.{mul-left-comm, mul-add, add-mul, mul-one, one-mul, two-mul, suc-mul, mul-suc, mul-le-mul-right}

@@ -1,7 +1,7 @@
 -- From a root at one scale to the root of a number: the arithmetic of exponents. Assumes nothing.
 use mathlib.Core.Path.{_≡_, refl, sym, ap, _∙_, subst}
 use mathlib.Core.Logic.{inl, inr}
-use mathlib.Core.Bool.{Bool, false}
+use mathlib.Core.Bool.{false}
 use Prim.Native.Nat.{ℕ, zero, suc, _+_, _-_, _*_, _/_, _%_, _^_, _≤_, _<_}
 use native.Mathlib.Nat.{le-of-suc-le-suc, le-add-left, eq-zero-or-pos, mul-le-mul, le-trans, lt-irrefl, lt-of-lt-of-le, lt-of-not-le}
 use native.Mathlib.Nat.{not-le-of-lt, mul-comm, mul-assoc, mul-left-comm, mul-le-mul-right, le-of-mul-le-mul-right, mod-eq-of-lt}
@@ -17,7 +17,7 @@ use lib.Ieee.Exact.{HasValue}
 use Rattle.roots.specs.Roots.{Nearest, Rounded}
 use Rattle.roots.specs.Working.{leastNormal, Scaled}
 use Rattle.roots.proofs.Newton.{square-le, Evened, shifted-by}
-use Rattle.roots.proofs.Patterns.{Steps, Parts}
+use Rattle.roots.proofs.Patterns.{Parts}
 
 -- a fraction with both sides multiplied
 pub widened : (x : Float) (a c k : ℕ) → HasValue x false a c → HasValue x false (a * k) (c * k)

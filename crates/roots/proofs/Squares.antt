@@ -7,7 +7,7 @@ use native.Mathlib.Nat.{lt-irrefl, mul-right-comm, mul-mul-mul-comm}
 use native.Mathlib.Nat.{add-mul, mul-add, mul-pos, eq-of-mul-eq-mul-right, lt-trans, le-antisymm, le-of-suc-le-suc, lt-of-not-le}
 use native.Mathlib.Omega.{arith}
 use lib.Dec.{T}
-use lib.Ieee.{Float, nan, inf, fin, binary64, fits}
+use lib.Ieee.{Float, nan, inf, fin}
 use lib.Ieee.Exact.{HasValue}
 use lib.Ieee.Positive.{positive, num, den, den-pos, value→cross, positive-of-value}
 use Rattle.roots.specs.Roots.{Rounded, IsRoot}

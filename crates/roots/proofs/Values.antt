@@ -10,7 +10,7 @@ use native.Mathlib.Omega.{arith}
 use lib.Dec.{T, leb, ltb, leb→le, nleb→lt, ltb→lt, nltb→le, lit≤, lt→ltb}
 use lib.Pow.{pow-add, pow-mono, shl-lt}
 use lib.IntN.{ℤ}
-use lib.Ieee.{Float, nan, inf, fin, binary64, up, down, size, odd, units, fits, toBits}
+use lib.Ieee.{Float, nan, inf, fin, binary64, up, down, size, units, fits, toBits}
 use lib.Ieee.Bits.{is-true}
 use lib.Ieee.Digits.{size-lt, size-le}
 use lib.Ieee.Fits.{down-pos, odd-fits, nan-fits, inf-fits}
@@ -19,7 +19,7 @@ use Rattle.roots.specs.Roots.{Nearest, Rounded, IsRoot}
 use Rattle.roots.specs.Values.{floorRoot, nearestRoot, scaleOf, rootOf, root}
 use Rattle.roots.specs.Working.{Scaled}
 use Rattle.roots.proofs.Halves.{near, next-square}
-use Rattle.roots.proofs.Patterns.{Steps, parts}
+use Rattle.roots.proofs.Patterns.{parts}
 use Rattle.roots.proofs.Scales.{evened, root-lt, four-pos, at-even, rounded, Ready, normal, subnormal}
 use Rattle.roots.proofs.Only.{root-only}
 

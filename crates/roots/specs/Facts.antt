@@ -1,11 +1,11 @@
 -- What a square root is known by, beside its definition. proofs/Only, Closest and Squares prove these of every float.
 use mathlib.Core.Path.{_≡_}
-use mathlib.Core.Bool.{Bool, false}
+use mathlib.Core.Bool.{false}
 use Prim.Native.Nat.{ℕ, _+_, _*_, _^_, _<_}
 use lib.Dec.{T}
 use lib.Ieee.{Float, binary64, fits}
 use lib.Ieee.Exact.{HasValue}
-use Rattle.roots.specs.Roots.{Nearest, Rounded, IsRoot}
+use Rattle.roots.specs.Roots.{Rounded, IsRoot}
 use Rattle.roots.specs.Values.{root}
 
 -- √a is never halfway between n and n + 1: the square of 2√a is not that of 2n + 1

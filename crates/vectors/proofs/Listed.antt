@@ -1,6 +1,6 @@
 -- The constant tables of reference vectors are the references: all of them, each once, in order, by one computed test. Assumes nothing.
 use mathlib.Core.Path.{_≡_, refl, sym, ap, _∙_}
-use mathlib.Core.Bool.{Bool, true}
+use mathlib.Core.Bool.{Bool, true, false}
 use mathlib.Core.List.{List, [], _∷_}
 use Prim.Native.Nat.{ℕ, zero, suc, _+_, _-_, _<_, _≤_}
 use native.Mathlib.Numerals.{add-one}
@@ -12,10 +12,14 @@ use borrow.Author.Tests.{lt-ltb, le-ltb, ltb-true, le-leb, lt-leb}
 use Rattle.common.specs.Tests.{each, those}
 use Rattle.common.specs.Digits.{fromDigits, digit}
 use Rattle.common.specs.Lists.{tabulate}
-use Rattle.common.proofs.Cases.{by-lt, by-last, inside}
+use Rattle.common.specs.Refusals.{isDimension}
+use Rattle.common.proofs.Answers.{refused-by, done-by}
+use Rattle.common.proofs.Cases.{by-bool, by-lt, by-last, inside}
 use Rattle.common.proofs.Fill.{getD-tabulate}
+use Rattle.common.proofs.Limits.{passed}
 use Rattle.common.proofs.Tests.{each-at}
 use Rattle.vectors.specs.declared.Vector.{Vector}
+use Rattle.vectors.specs.declared.Reference.{Reference}
 use Rattle.vectors.specs.declared.Reference.the-variants.{Refused, Found}
 use Rattle.vectors.specs.Vectors.{sizes, isReference, references, entry}
 use Rattle.vectors.specs.LookUps.{entries, referenceNumber, referenceAt, toldReference, referenceCall}
@@ -123,3 +127,18 @@ reference-there D i zero h l = rw (lt-ltb 0 D l)
 reference-there D i (suc zero) h l = rw (lt-ltb 1 D l)
 reference-there D i (suc (suc zero)) h l = rw (lt-ltb 2 D l)
 reference-there D i (suc (suc (suc m))) h l = absurd (omega arith)
+
+-- BACK FROM WHAT IS ANSWERED to whether there is such a reference
+
+module _ (D i : ℕ) (r : Reference) (told : toldReference r ≡ referenceCall D i) (d : isDimension D ≡ true) where
+  pub reference-found : (v : Vector) → r ≡ Found v → (ltb i (length (references D)) ≡ true) × (v ≡ referenceAt D i)
+  unfolding referenceCall referenceNumber
+  reference-found v e =
+      let done = done-by (referenceNumber D i) (referenceAt D i) v (sym (ap toldReference e) ∙ told) in
+      (passed (ltb i (length (references D))) 4 0 (rw d at (done .0)) .0, done .1)
+
+  pub reference-none : (k : ℕ) → r ≡ Refused k → ltb i (length (references D)) ≡ false
+  unfolding referenceCall referenceNumber
+  reference-none k e =
+      let refused = refused-by k (referenceNumber D i) (referenceAt D i) (sym (ap toldReference e) ∙ told) in
+      by-bool (ltb i (length (references D))) (λ h. absurd (refused .1 (rw (d, h)))) (λ h. h)

@@ -5,7 +5,7 @@ use native.Mathlib.Omega.{arith}
 use lib.Dec.{T}
 use lib.Ieee.{binary64, toBits}
 use Rattle.roots.proofs.Patterns.{Parts, parts, positive-no-nan}
-use Rattle.roots.proofs.Scales.{Shifted, zeros-of, Ready, subnormal, is-zero, answered}
+use Rattle.roots.proofs.Scales.{Shifted, zeros-of, subnormal, is-zero, answered}
 use Rattle.roots.proofs.subnormal_root.Statement.{statement}
 use Rattle.roots.proofs.subnormal_root.Tie as tie
 

@@ -8,11 +8,9 @@ use lib.Ieee.{Float}
 use lib.ListN.{length}
 use Rattle.common.specs.Matrices.{cell}
 use Rattle.common.proofs.Fill.{part-length}
-use Rattle.common.proofs.Limits.{power-most}
 use Rattle.common.proofs.Matrices.{columns-filled}
-use Rattle.common.proofs.Steps.{Stepping, stepping-none, stepping-fits, stepping-done}
+use Rattle.common.proofs.Steps.{Stepping, stepping-none, stepping-fits, stepping-done, column-lent}
 use Rattle.coefficients.specs.Working.{three, productOf}
-use Rattle.coefficients.proofs.Stretches.{column-lent}
 use borrow.Author.Needs.{needs}
 use Rattle.coefficients.proofs.columns.fill_products.Statement.{statement}
 use Rattle.coefficients.proofs.columns.fill_products.Tie as tie

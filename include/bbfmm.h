@@ -1,12 +1,13 @@
 /*
  * The operators behind the goaf gas maps, for C and C++: Chebyshev nodes and polynomials, transfer between a block and its
- * children, turning a block, points, coefficients, cross approximation.
+ * children, turning a block, points, square roots and distances, coefficients, cross approximation.
  *
  * `rt staticlib bbfmm` proves the calls and writes target/staticlib/libbbfmm.a, for x86-64. The archive takes memcpy and memset
  * from the C library and nothing else. It allocates nothing and keeps nothing between calls.
  *
- * NUMBERS. Every call answers BBFMM_DONE or the number of a refusal. After a refusal every lent buffer is as it came. With several
- * faults the lowest number is given. Each call ends, whatever it is given.
+ * NUMBERS. Every call answers BBFMM_DONE or the number of a refusal; bbfmm_square_root alone refuses nothing and answers a float.
+ * After a refusal every lent buffer is as it came. With several faults the lowest number is given. Each call ends, whatever it is
+ * given.
  *
  * BUFFERS. A buffer is two arguments: a pointer to its first entry, and how many entries it has. A const buffer is only read. The
  * lengths below are exact: any other is refused with BBFMM_WRONG_LENGTH. What no call can test, the caller sees to: a pointer is
@@ -36,7 +37,8 @@ enum {
     BBFMM_DONE = 0,
     BBFMM_NO_DIMENSION = 1, /* the dimension is not 1, 2 or 3 */
     BBFMM_NO_ORDER = 2,     /* the order is not 1 to 16 */
-    BBFMM_NO_COUNT = 3,     /* too many points, entries, singular values, rows or columns, or no singular values */
+    BBFMM_NO_COUNT = 3,     /* too many points, entries, singular values, rows or columns, no singular values, or too many nodes
+                               in a block of distances */
     BBFMM_NO_ENTRY = 4,     /* one of a vector's first D entries is outside -3 to 3 */
     BBFMM_NO_CASE = 5,      /* a case, a reference number, a child or a node is not below how many there are */
     BBFMM_NOT_ZERO = 6,     /* an entry of a vector past the first D is not 0 */
@@ -164,6 +166,29 @@ uint8_t bbfmm_generate_chebyshev_target_points(
 uint8_t bbfmm_generate_chebyshev_source_points(
     size_t dimension, size_t order, double length, size_t reference, const double *nodes, size_t nodes_length, double *points,
     size_t points_length);
+
+/* DISTANCES */
+
+/*
+ * The square root of x, which may be any float, correctly rounded to nearest even. +0.0, -0.0 and plus infinity give themselves.
+ * NaN, minus infinity and every other number below 0 give NaN.
+ * Answers the root and no number: there is nothing to refuse.
+ */
+double bbfmm_square_root(double x);
+
+/*
+ * How far each node of the source block is from each node of the target block. The target block lies about the origin, the source
+ * block at the reference vector with this number, which is below 2, 7, 16 for dimension 1, 2, 3. N is at most 1,024.
+ * nodes: p entries.
+ * sources, targets: N by D each. They become where the nodes of the source block lie, and those of the target block, as
+ *     bbfmm_generate_chebyshev_source_points and bbfmm_generate_chebyshev_target_points leave them.
+ * block: N by N, a row a source, a column a target. Each entry becomes the distance between the two: on each axis source less
+ *     target, the squares of these added in axis order, and bbfmm_square_root of the sum, in one dimension too.
+ * Refuses with 1, 2, 3, 5, 7, 8.
+ */
+uint8_t bbfmm_sample_distances(
+    size_t dimension, size_t order, double length, size_t reference, const double *nodes, size_t nodes_length, double *sources,
+    size_t sources_length, double *targets, size_t targets_length, double *block, size_t block_length);
 
 /* COEFFICIENTS */
 

@@ -9,13 +9,15 @@ int memcmp(const void *left, const void *right, size_t bytes);
 void *malloc(size_t bytes);
 void *calloc(size_t count, size_t bytes);
 
-enum { CALLS = 21, SIZES = 3 };
+enum { CALLS = 23, SIZES = 3, NUMBERS = 1000 };
 
 static const size_t DIMENSIONS[SIZES] = {1, 2, 3};
 static const size_t ORDERS[SIZES] = {2, 8, 16};
 static const size_t COUNTS[SIZES] = {16, 128, 1024};
 static const size_t MANY_POINTS[SIZES] = {16, 256, 4096};
 static const size_t CELL_POINTS[SIZES] = {1, 64, 4096};
+static const size_t ROOTS[SIZES] = {1, 100, NUMBERS};
+static const size_t SAMPLED_ORDERS[SIZES] = {2, 8, 10};
 static const int32_t VECTORS[SIZES][3] = {{-2, 0, 0}, {0, -2, 0}, {0, -2, 1}};
 
 /* What the calls are given, and what they write: the results of one side stand in one stretch, so that two sides can be compared. */
@@ -24,6 +26,7 @@ static double *nodes;
 static double *polynomials;
 static double *samples;
 static double *values;
+static double numbers[NUMBERS];
 static uint8_t *mask;
 static double *written;
 static uint16_t *table;
@@ -32,12 +35,23 @@ static int32_t vector[3];
 static size_t written_count;
 static size_t table_count;
 
-/* Floats between -1 and 1, in no order; nodes and polynomials there; a smooth block; values that fall; a mask. */
+/* A normal float above 0: all exponents and fractions, spread evenly and in no order. */
+static double normal(size_t k)
+{
+    uint64_t bits = (k + 1) * 0x9e3779b97f4a7c15;
+    union {
+        uint64_t bits;
+        double number;
+    } both = {(1 + (bits >> 52) % 2046) << 52 | (bits & 0xfffffffffffff)};
+    return both.number;
+}
+
+/* Floats between -1 and 1, in no order; nodes and polynomials there; a smooth block; values that fall; a mask; normal floats. */
 static void make(size_t call, size_t size)
 {
-    size_t order = ORDERS[size];
+    size_t order = call == 15 ? SAMPLED_ORDERS[size] : ORDERS[size];
     size_t count = COUNTS[size];
-    written_count = call == 15 ? 4 * power(order, 3) * 4096 + 500000 : call == 14 ? power(order, 3) * 4096 + 500000 : 2200000;
+    written_count = call == 17 ? 4 * power(order, 3) * 4096 + 500000 : call == 16 ? power(order, 3) * 4096 + 500000 : 2200000;
     table_count = 8192;
     given = malloc(16384 * sizeof *given);
     nodes = malloc(16 * sizeof *nodes);
@@ -58,6 +72,9 @@ static void make(size_t call, size_t size)
     for (size_t k = 0; k < count; k++) {
         values[k] = 1 / (double)(k + 1);
         mask[k] = k % 3 != 0;
+    }
+    for (size_t k = 0; k < NUMBERS; k++) {
+        numbers[k] = normal(k);
     }
 }
 
@@ -168,6 +185,29 @@ static void points(bool ours, size_t size, bool are_sources)
     }
 }
 
+/* One root a number. A call could change what is not kept here, and reading it again would be counted with every root. */
+static void roots(bool ours, size_t size)
+{
+    double (*root)(double) = ours ? bbfmm_square_root : plain_square_root;
+    double *to = written;
+    size_t count = ROOTS[size];
+    for (size_t k = 0; k < count; k++) {
+        to[k] = root(numbers[k]);
+    }
+}
+
+static void sample(bool ours, size_t size)
+{
+    size_t d = DIMENSIONS[size];
+    size_t p = SAMPLED_ORDERS[size];
+    size_t n = power(p, d);
+    double *sources = written;
+    double *targets = sources + n * d;
+    double *block = targets + n * d;
+    (ours ? bbfmm_sample_distances : plain_sample_distances)(
+        d, p, 2, 1, nodes, p, sources, n * d, targets, n * d, block, n * n);
+}
+
 static void cross(bool ours, size_t size)
 {
     size_t n = COUNTS[size];
@@ -221,12 +261,14 @@ static void once(bool ours, size_t call, size_t size)
     case 11: turn(ours, size); break;
     case 12: points(ours, size, false); break;
     case 13: points(ours, size, true); break;
-    case 14: coefficients(ours, size, false); break;
-    case 15: coefficients(ours, size, true); break;
-    case 16: refused(ours, size, 1e308 * 10); break;
-    case 17: refused(ours, size, 2); break;
-    case 18: choose(ours, size, false); break;
-    case 19: choose(ours, size, true); break;
+    case 14: roots(ours, size); break;
+    case 15: sample(ours, size); break;
+    case 16: coefficients(ours, size, false); break;
+    case 17: coefficients(ours, size, true); break;
+    case 18: refused(ours, size, 1e308 * 10); break;
+    case 19: refused(ours, size, 2); break;
+    case 20: choose(ours, size, false); break;
+    case 21: choose(ours, size, true); break;
     default: cross(ours, size); break;
     }
 }
@@ -241,8 +283,9 @@ static bool is_alike(size_t call, size_t size)
     int32_t ours_vector[3] = {vector[0], vector[1], vector[2]};
     make(call, size);
     once(false, call, size);
-    return memcmp(ours_written, written, written_count * sizeof *written) == 0 && memcmp(ours_table, table, table_count * sizeof *table) == 0 &&
-           memcmp(ours_answer, answer, sizeof answer) == 0 && memcmp(ours_vector, vector, sizeof vector) == 0;
+    return memcmp(ours_written, written, written_count * sizeof *written) == 0 &&
+           memcmp(ours_table, table, table_count * sizeof *table) == 0 && memcmp(ours_answer, answer, sizeof answer) == 0 &&
+           memcmp(ours_vector, vector, sizeof vector) == 0;
 }
 
 int main(int count, char **words)

@@ -28,6 +28,11 @@ uint8_t plain_generate_chebyshev_target_points(
 uint8_t plain_generate_chebyshev_source_points(
     size_t dimension, size_t order, double side, size_t reference, const double *restrict nodes, size_t nodes_length,
     double *restrict points, size_t points_length);
+double plain_square_root(double x);
+uint8_t plain_sample_distances(
+    size_t dimension, size_t order, double side, size_t reference, const double *restrict nodes, size_t nodes_length,
+    double *restrict sources, size_t sources_length, double *restrict targets, size_t targets_length, double *restrict block,
+    size_t block_length);
 uint8_t plain_get_approximation_coefficients(
     size_t dimension, size_t order, double side, size_t rows, bool with_gradients, const double *restrict centre,
     size_t centre_length, const double *restrict node_polynomials, size_t node_polynomials_length, double *restrict points,

@@ -3,6 +3,7 @@
 mod blocks;
 mod cells;
 mod choices;
+mod distances;
 mod polynomials;
 mod turns;
 
@@ -23,7 +24,7 @@ pub const SHAPES: [(usize, usize); SIZES] = [(1, 2), (2, 8), (3, 16)];
 
 pub type Make = fn(usize) -> Measure;
 
-pub const CALLS: [(&str, Make); 21] = [
+pub const CALLS: [(&str, Make); 23] = [
     ("generate_chebyshev_nodes", polynomials::nodes),
     ("evaluate_chebyshev_polynomials", polynomials::values),
     ("evaluate_chebyshev_polynomials, with derivatives", polynomials::derivatives),
@@ -38,6 +39,8 @@ pub const CALLS: [(&str, Make); 21] = [
     ("the turn: all four, for every vector and case", turns::whole),
     ("generate_chebyshev_target_points", blocks::target_points),
     ("generate_chebyshev_source_points", blocks::source_points),
+    ("square_root", distances::square_root),
+    ("sample_distances", distances::sample_distances),
     ("get_approximation_coefficients", cells::values),
     ("get_approximation_coefficients, with gradients", cells::gradients),
     ("get_approximation_coefficients, refused with 9 at the last coordinate", cells::not_finite),

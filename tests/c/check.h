@@ -27,6 +27,7 @@ void test_turn(void);
 void test_chebyshev(void);
 void test_transfer(void);
 void test_points(void);
+void test_distances(void);
 void test_coefficients(void);
 void test_choices(void);
 void test_aca(void);

@@ -55,6 +55,7 @@ int main(void)
     test_chebyshev();
     test_transfer();
     test_points();
+    test_distances();
     test_coefficients();
     test_choices();
     test_aca();

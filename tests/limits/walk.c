@@ -187,6 +187,7 @@ int main(void)
     walk_chebyshev();
     walk_transfer();
     walk_points();
+    walk_distances();
     walk_coefficients();
     walk_choices();
     walk_aca();

@@ -64,6 +64,7 @@ void walk_turn(void);
 void walk_chebyshev(void);
 void walk_transfer(void);
 void walk_points(void);
+void walk_distances(void);
 void walk_coefficients(void);
 void walk_choices(void);
 void walk_aca(void);

@@ -7,6 +7,9 @@ int strcmp(const char *left, const char *right);
 void *memcpy(void *to, const void *from, size_t bytes);
 void exit(int status);
 
+/* How a case stands for any NaN. */
+static const uint64_t NAN_BITS = 0x7ff8000000000000;
+
 static Field fields[FIELDS];
 static size_t field_count;
 static char label[64];
@@ -57,7 +60,8 @@ static void read_field(const char *side)
     for (size_t i = 0; i < field->count; i++) {
         read_word(word, sizeof word);
         bool is_nan = strcmp(word, "nan") == 0;
-        field->values[i % MOST] = is_nan ? 0x7ff8000000000000 : digits(word, field->kind == 'f' ? 16 : 10);
+        bool is_hex = field->kind == 'f' || field->kind == 'x';
+        field->values[i % MOST] = is_nan ? NAN_BITS : digits(word, is_hex ? 16 : 10);
     }
 }
 
@@ -141,11 +145,22 @@ void hold_numbers(const char *name, const size_t *list, size_t count)
     }
 }
 
-static bool is_float(double x, uint64_t bits)
+/* The bits of a float, any NaN's as a case has them. */
+static uint64_t bits_of(double x)
 {
-    uint64_t found;
-    memcpy(&found, &x, sizeof found);
-    return x == x ? found == bits : bits == 0x7ff8000000000000;
+    uint64_t bits;
+    memcpy(&bits, &x, sizeof bits);
+    return x == x ? bits : NAN_BITS;
+}
+
+bool are_alike(const double *left, const double *right, size_t count)
+{
+    for (size_t i = 0; i < count; i++) {
+        if (bits_of(left[i]) != bits_of(right[i])) {
+            return false;
+        }
+    }
+    return true;
 }
 
 void hold_reals(const char *name, const double *list, size_t count)
@@ -153,8 +168,21 @@ void hold_reals(const char *name, const double *list, size_t count)
     const Field *field = find("out", name);
     hold(field != 0 && field->count == count, name);
     for (size_t i = 0; !is_wrong && i < count; i++) {
-        hold(is_float(list[i], field->values[i]), name);
+        hold(bits_of(list[i]) == field->values[i], name);
     }
+}
+
+void hold_checksum(const char *name, const double *list, size_t count)
+{
+    const Field *field = find("out", name);
+    uint64_t sum = 0xcbf29ce484222325;
+    for (size_t i = 0; i < count; i++) {
+        uint64_t bits = bits_of(list[i]);
+        for (size_t byte = 0; byte < sizeof bits; byte++) {
+            sum = (sum ^ (bits >> 8 * byte & 0xff)) * 0x100000001b3;
+        }
+    }
+    hold(field != 0 && field->count == 1 && field->values[0] == sum, name);
 }
 
 /* THE PROGRAM */
@@ -164,7 +192,12 @@ static Answer *answer_of(const char *file)
     static const struct {
         const char *file;
         Answer *answer;
-    } all[] = {{"e01_cell", answer_e01_cell}, {"e02_node", answer_e02_node}};
+    } all[] = {
+        {"e01_cell", answer_e01_cell},
+        {"e02_node", answer_e02_node},
+        {"e03_sqrt", answer_e03_sqrt},
+        {"e03_sampler", answer_e03_sampler},
+    };
     for (size_t i = 0; i < sizeof all / sizeof all[0]; i++) {
         if (strcmp(all[i].file, file) == 0) {
             return all[i].answer;

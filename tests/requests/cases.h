@@ -6,7 +6,8 @@
 
 enum { FIELDS = 32, MOST = 4096 };
 
-/* A field: its name, its kind (u and i for whole numbers, f for floats, x for bytes), and its values, of which floats stand as bits. */
+/* A field: its name, its kind (u and i for whole numbers, f for floats, x for a checksum), and its values, of which floats stand as
+   bits. */
 typedef struct {
     char side[4]; /* in or out */
     char name[28];
@@ -29,12 +30,18 @@ size_t count_of(const char *name);
 void hold_number(const char *name, size_t found);
 void hold_numbers(const char *name, const size_t *list, size_t count);
 void hold_reals(const char *name, const double *list, size_t count);
+/* The same for a field that has only the checksum of the floats: FNV-1a over their bytes, the lowest first. */
+void hold_checksum(const char *name, const double *list, size_t count);
 /* For what the case does not list. */
 void hold(bool holds, const char *what);
+/* Whether two lists have the same floats, by bits, any NaN being any NaN. */
+bool are_alike(const double *left, const double *right, size_t count);
 
 /* Makes the call of the case that was read. */
 typedef void Answer(void);
 Answer answer_e01_cell;
 Answer answer_e02_node;
+Answer answer_e03_sqrt;
+Answer answer_e03_sampler;
 
 #endif

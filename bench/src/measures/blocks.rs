@@ -5,7 +5,7 @@ use crate::chebyshev::{apply_cheb_tensor_transfer, doors};
 use faer::{Mat, MatRef};
 use std::hint::black_box;
 
-fn shape_in_words(dimension: usize, order: usize) -> String {
+pub fn shape_in_words(dimension: usize, order: usize) -> String {
     format!("order {order}, dimension {dimension}")
 }
 

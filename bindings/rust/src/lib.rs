@@ -1,11 +1,11 @@
 //! The operators of a black-box fast multipole method, from a library in which every call is proved
 //! to meet its contract: Chebyshev nodes and polynomials, transfer between a block and its
-//! children, turning a block, points, coefficients, cross approximation.
+//! children, turning a block, points, distances, coefficients, cross approximation.
 //!
 //! Each function here is one call of the static library `libbbfmm.a`. It copies nothing, allocates
 //! nothing and keeps nothing between calls, so any thread may call it. It ends for every input,
 //! never panics with the library that it was built for, and answers a [`Refusal`] where the input
-//! lies outside its limits; then every lent slice is as it came.
+//! lies outside its limits; then every lent slice is as it came. [`square_root`] takes every float.
 //!
 //! # Words
 //!
@@ -42,6 +42,7 @@ mod aca;
 mod chebyshev;
 mod choices;
 mod coefficients;
+mod distances;
 mod points;
 mod refusal;
 mod sys;
@@ -52,6 +53,7 @@ pub use aca::{Buffers, Report, Stop, aca_partial_pivoting};
 pub use chebyshev::{evaluate_chebyshev_polynomials, generate_chebyshev_nodes};
 pub use choices::{argmax_masked, calculate_singular_values_cutoff};
 pub use coefficients::{Cell, Gradients, get_approximation_coefficients};
+pub use distances::{sample_distances, square_root};
 pub use points::{generate_chebyshev_source_points, generate_chebyshev_target_points};
 pub use refusal::Refusal;
 pub use transfer::{apply_cheb_tensor_transfer, get_m2m_transfer_operators};

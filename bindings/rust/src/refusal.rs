@@ -24,7 +24,7 @@ pub enum Refusal {
     /// The order is not 1 to 16.
     NoOrder = 2,
     /// There are more than 4,096 points, more than 1,024 entries, singular values, rows or columns,
-    /// or no singular values.
+    /// or no singular values. A block of distances has N rows and N columns.
     NoCount = 3,
     /// One of a vector's first entries, as many as the dimension, is outside -3 to 3.
     NoEntry = 4,

@@ -121,6 +121,23 @@ unsafe extern "C" {
         points_length: usize,
     ) -> u8;
 
+    fn bbfmm_square_root(x: f64) -> f64;
+
+    fn bbfmm_sample_distances(
+        dimension: usize,
+        order: usize,
+        length: f64,
+        reference: usize,
+        nodes: *const f64,
+        nodes_length: usize,
+        sources: *mut f64,
+        sources_length: usize,
+        targets: *mut f64,
+        targets_length: usize,
+        block: *mut f64,
+        block_length: usize,
+    ) -> u8;
+
     fn bbfmm_get_approximation_coefficients(
         dimension: usize,
         order: usize,
@@ -351,6 +368,42 @@ pub(crate) fn generate_chebyshev_source_points(
             nodes.len(),
             points.as_mut_ptr(),
             points.len(),
+        )
+    }
+}
+
+pub(crate) fn square_root(x: f64) -> f64 {
+    // SAFETY: a float crosses by its value, and any float is taken.
+    unsafe { bbfmm_square_root(x) }
+}
+
+#[expect(clippy::too_many_arguments, reason = "they are those of the call")]
+pub(crate) fn sample_distances(
+    dimension: usize,
+    order: usize,
+    length: f64,
+    reference: usize,
+    nodes: &[f64],
+    sources: &mut [f64],
+    targets: &mut [f64],
+    block: &mut [f64],
+) -> u8 {
+    // SAFETY: four slices by their pointers and lengths. `nodes` is only read; the three others are
+    // borrowed mutably, so they overlap nothing.
+    unsafe {
+        bbfmm_sample_distances(
+            dimension,
+            order,
+            length,
+            reference,
+            nodes.as_ptr(),
+            nodes.len(),
+            sources.as_mut_ptr(),
+            sources.len(),
+            targets.as_mut_ptr(),
+            targets.len(),
+            block.as_mut_ptr(),
+            block.len(),
         )
     }
 }

@@ -14,6 +14,9 @@ use Rattle.chebyshev.specs.Polynomials.{polynomialsCall}
 use Rattle.operators.specs.Operators.{operatorsCall}
 use Rattle.transfer.specs.Tensor.{transferCall}
 use Rattle.points.specs.Points.{targetCall, sourceCall}
+use Rattle.roots.specs.Values.{SquareRoot}
+use Rattle.roots.proofs.Determined.{square-root-determined}
+use Rattle.distances.specs.Distances as distances
 use Rattle.coefficients.specs.Coefficients as coefficients
 use Rattle.aca_steps.specs.Memories.{Memory}
 use Rattle.bbfmm.specs.Told.{lookUpTold, followTold, referenceTold, argmaxTold, cutoffTold, Crossed, crossTold}
@@ -76,6 +79,18 @@ module _ (dimension order : ℕ) (side : Float) (reference : ℕ) (nodes points 
   bbfmm-generate-chebyshev-source-points-determined : r ≡ sourceCall dimension order side reference nodes points →
       r' ≡ sourceCall dimension order side reference nodes points → r ≡ r'
   bbfmm-generate-chebyshev-source-points-determined = coincide r r' (sourceCall dimension order side reference nodes points)
+
+-- DISTANCES
+
+module _ (x r r' : Float) where
+  bbfmm-square-root-determined : SquareRoot x r → SquareRoot x r' → r ≡ r'
+  bbfmm-square-root-determined = square-root-determined x r r'
+
+module _ (dimension order : ℕ) (side : Float) (reference : ℕ) (nodes : List Float) (lent : distances.Memory)
+    (r r' : ℕ × distances.Memory) where
+  bbfmm-sample-distances-determined : r ≡ distances.sampleCall dimension order side reference nodes lent →
+      r' ≡ distances.sampleCall dimension order side reference nodes lent → r ≡ r'
+  bbfmm-sample-distances-determined = coincide r r' (distances.sampleCall dimension order side reference nodes lent)
 
 -- COEFFICIENTS
 

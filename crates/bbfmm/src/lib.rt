@@ -4,6 +4,7 @@ mod answers;
 mod chebyshev_calls;
 mod choices_calls;
 mod coefficients_calls;
+mod distances_calls;
 mod points_calls;
 mod transfer_calls;
 mod turn_calls;

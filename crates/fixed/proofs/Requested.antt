@@ -1,14 +1,34 @@
 -- What the requests fix holds: each row is computed from the definitions. Assumes nothing.
 use mathlib.Core.Path.{refl}
 use lib.Count.{trailingZeros}
-use lib.Ieee.{add, sub, mul, div, neg, lt, eq, le, ofBits, ofFields, odd, units, round, sum, size as digits, span, climb}
+use lib.Ieee.{add, sub, mul, div, neg, lt, eq, le, ofInt, ofBits, ofFields, odd, units, round, sum, size as digits, span, climb}
 use Rattle.common.specs.Floats.{size}
 use Rattle.common.specs.Refusals.{isCell}
-use Rattle.common.specs.Tests.{each}
+use Rattle.common.specs.Digits.{digit}
+use Rattle.common.specs.Tests.{each, those}
+use Rattle.vectors.specs.Vectors.{isReference, references, entry}
+use Rattle.roots.specs.Values.{floorRoot, nearestRoot, root}
+use Rattle.distances.specs.Distances.{added}
 use Rattle.coordinates.specs.Coordinates.{allFinite, coordinateIn, inCell, allInCell, pointsNumber}
 use Rattle.fixed.specs.Requests.{Requested}
 
 pub requested : Requested
-unfolding size isCell each allFinite coordinateIn inCell allInCell pointsNumber trailingZeros add sub mul div neg lt eq le ofBits ofFields
-    odd units round sum digits span climb
-requested = record { border-passes = refl; beyond-refused = refl; low-border-passes = refl; low-beyond-refused = refl }
+unfolding size isCell each allFinite coordinateIn inCell allInCell pointsNumber floorRoot nearestRoot root added digit references entry
+    isReference those trailingZeros add sub mul div neg lt eq le ofInt ofBits ofFields odd units round sum digits span climb
+requested =
+    record {
+      border-passes = refl;
+      beyond-refused = refl;
+      low-border-passes = refl;
+      low-beyond-refused = refl;
+      zero-root = refl;
+      minus-zero-root = refl;
+      infinite-root = refl;
+      nan-root = refl;
+      negative-root = refl;
+      minus-infinite-root = refl;
+      root-of-two = refl;
+      root-of-least = refl;
+      on-a-line = refl;
+      in-a-plane = refl;
+    }

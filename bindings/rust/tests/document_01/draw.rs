@@ -4,7 +4,7 @@
 use std::ops::RangeInclusive;
 
 /// Zeros of both signs, subnormals, floats about the least pivot, huge floats, infinities and NaN.
-const SPECIAL: [f64; 14] = [
+pub const SPECIAL: [f64; 14] = [
     0.0,
     -0.0,
     5e-324,
@@ -55,6 +55,11 @@ impl Draw {
         let first = (self.state ^ (self.state >> 30)).wrapping_mul(0xbf58_476d_1ce4_e5b9);
         let second = (first ^ (first >> 27)).wrapping_mul(0x94d0_49bb_1331_11eb);
         second ^ (second >> 31)
+    }
+
+    /// Any 64 bits.
+    pub fn bits(&mut self) -> u64 {
+        self.next()
     }
 
     /// A number below the bound, which is not 0.

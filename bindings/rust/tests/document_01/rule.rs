@@ -1,11 +1,13 @@
-//! The rules of document 01, one file for each of its parts. A rule answers what the call must
-//! leave, or a refusal's number.
+//! The rules of document 01 and of the requests that followed it, one file for each part. A rule
+//! answers what the call must leave, or a refusal's number.
 
 pub mod chebyshev;
 pub mod choices;
 pub mod coefficients;
 pub mod cross;
+pub mod distances;
 pub mod points;
+pub mod roots;
 pub mod transfer;
 pub mod turn;
 

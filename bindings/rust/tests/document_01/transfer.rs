@@ -7,7 +7,7 @@ use crate::held::{Tally, same_floats};
 use crate::rule::transfer::{Move, operators, transfer};
 
 /// Nodes: the true ones of the order, or any floats.
-fn nodes(draw: &mut Draw, order: usize) -> Vec<f64> {
+pub fn nodes(draw: &mut Draw, order: usize) -> Vec<f64> {
     let mut nodes = draw.lent(order.min(17));
     if draw.one_in(2) {
         // A refusal leaves the drawn ones.

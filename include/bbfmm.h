@@ -49,11 +49,13 @@ enum {
     BBFMM_OUT_OF_CELL = 11  /* a reference coordinate of a point is above 1 + 2^-20 in size */
 };
 
-/* Why a cross approximation ended. */
+/* Why a cross approximation ended. The old mode answers 1, 2 or 3, and restart mode 1, 3 or 4. */
 enum {
     BBFMM_STOP_TOLERABLE = 1, /* the last term is small against the estimate: norm <= (epsilon*epsilon) * estimate */
-    BBFMM_STOP_SPENT = 2,     /* the pivot of the row that was read is below 2^-52 in size; a NaN is not */
-    BBFMM_STOP_USED_UP = 3    /* there are as many terms as the block has rows or columns */
+    BBFMM_STOP_SPENT = 2,     /* old mode only: the row that was read has no usable pivot, since its pivot is below 2^-52 in size; a
+                                 NaN is not. It does not say that nothing is left: other rows may be unread */
+    BBFMM_STOP_USED_UP = 3,   /* there are as many terms as the block has rows or columns */
+    BBFMM_STOP_ALL_TRIED = 4  /* restart mode only: every row has been tried */
 };
 
 /* TURNING A BLOCK */
@@ -237,22 +239,31 @@ uint8_t bbfmm_calculate_singular_values_cutoff(
 
 /*
  * Approximates a block of at most 1,024 rows and 1,024 columns by U times the transpose of V. The run stops by its own test, which
- * sees only the rows and columns that it read: epsilon bounds no error. With m rows, n columns, and k for the lesser of the two:
+ * sees only the rows and columns that it read: epsilon bounds no error.
+ *
+ * restart chooses the mode. In the old mode, false, the run ends at the first row without a usable pivot, and it may read a row or
+ * a column again. In restart mode, true, it reads no row twice and no column twice. A row has a pivot there if an entry of it in an
+ * unread column, less the earlier terms, is at least 2^-52 in size; a NaN is no pivot. At a row without one nothing is stored, and
+ * the lowest unread row is read next. That row is also taken where the next row would be one that was read already. If no row is
+ * unread then, the run ends with BBFMM_STOP_ALL_TRIED. Stop 1 is tested first, then stop 3, and only then a next row is looked for.
+ *
+ * With m rows, n columns, and k for the lesser of the two:
  * samples: m by n, the block.
  * u: m by k, and v: n by k. A column of each becomes a term; as many as the rank says, and the others stay as lent.
- * row_list, column_list: k entries each. They become the rows that were read in order, and the columns; unused places stay as lent.
- * row: n entries, and column: m entries, room to work in. They become the row and the column that were last worked on, the row
- *     multiplied by 1/pivot if it had one; what was not worked on stays as lent.
+ * row_list: k entries in the old mode, m in restart mode. They become the rows that were read in order, those without a pivot too.
+ * column_list: k entries. They become the columns that were read in order. Unused places of both lists stay as lent.
+ * row: n entries, and column: m entries, room to work in. They become the row and the column that were last worked on, the row less
+ *     the earlier terms, and multiplied by 1/pivot if it had one; what was not worked on stays as lent.
  * counts: 3 entries. They become the rank, why the run ended, a BBFMM_STOP, and how many rows were read. As many columns were read
  *     as the rank says.
  * estimate: 1 entry. It becomes the estimate of the approximation's squared norm.
  * Refuses with 3, 7.
  */
 uint8_t bbfmm_aca_partial_pivoting(
-    size_t rows, size_t columns, const double *samples, size_t samples_length, double epsilon, double *u, size_t u_length,
-    double *v, size_t v_length, uint16_t *row_list, size_t row_list_length, uint16_t *column_list, size_t column_list_length,
-    double *row, size_t row_length, double *column, size_t column_length, size_t *counts, size_t counts_length, double *estimate,
-    size_t estimate_length);
+    size_t rows, size_t columns, const double *samples, size_t samples_length, double epsilon, bool restart, double *u,
+    size_t u_length, double *v, size_t v_length, uint16_t *row_list, size_t row_list_length, uint16_t *column_list,
+    size_t column_list_length, double *row, size_t row_length, double *column, size_t column_length, size_t *counts,
+    size_t counts_length, double *estimate, size_t estimate_length);
 
 #ifdef __cplusplus
 }

@@ -76,6 +76,15 @@ static double dot(const double *restrict a, const double *restrict b, size_t cou
     return sum;
 }
 
+/* A block, and what a run is lent for it. */
+typedef struct {
+    size_t rows, columns;
+    const double *samples;
+    double *u, *v;
+    uint16_t *row_list, *column_list;
+    double *row, *column;
+} Lent;
+
 /* The sum of the first k terms along a line, each times its factor. */
 static void sum_terms(
     size_t k, size_t count, const double *restrict terms, const double *restrict factors, size_t stride, double *restrict line)
@@ -91,72 +100,113 @@ static void sum_terms(
     }
 }
 
-uint8_t plain_aca_partial_pivoting(
-    size_t rows, size_t columns, const double *restrict samples, size_t samples_length, double epsilon, double *restrict u,
-    size_t u_length, double *restrict v, size_t v_length, uint16_t *restrict row_list, size_t row_list_length,
-    uint16_t *restrict column_list, size_t column_list_length, double *restrict row, size_t row_length, double *restrict column,
-    size_t column_length, size_t *restrict counts, size_t counts_length, double *restrict estimate, size_t estimate_length)
+/* A line of the block, whose entries stand so far apart, less the first k terms. */
+static void read_line(
+    size_t k, size_t count, const double *restrict samples, size_t apart, const double *restrict terms,
+    const double *restrict factors, size_t stride, double *restrict line)
+{
+    sum_terms(k, count, terms, factors, stride, line);
+    for (size_t i = 0; i < count; i++) {
+        line[i] = samples[i * apart] - line[i];
+    }
+}
+
+/* Makes term k of the row that was read, with its pivot in column j, and of that column. Adds to the estimate, and answers the norm. */
+static double add_term(const Lent *lent, size_t k, size_t j, double *restrict estimate)
+{
+    size_t rows = lent->rows;
+    size_t columns = lent->columns;
+    double *restrict row = lent->row;
+    double *restrict column = lent->column;
+    double *restrict u = lent->u;
+    double *restrict v = lent->v;
+    double factor = 1 / row[j];
+    for (size_t c = 0; c < columns; c++) {
+        row[c] = row[c] * factor;
+    }
+    read_line(k, rows, lent->samples + j * rows, 1, u, v + j, columns, column);
+    double norm = dot(column, column, rows) * dot(row, row, columns);
+    double cross = 0;
+    for (size_t l = 0; l < k; l++) {
+        cross += dot(u + l * rows, column, rows) * dot(v + l * columns, row, columns);
+    }
+    for (size_t i = 0; i < rows; i++) {
+        u[k * rows + i] = column[i];
+    }
+    for (size_t c = 0; c < columns; c++) {
+        v[k * columns + c] = row[c];
+    }
+    lent->column_list[k] = (uint16_t)j;
+    *estimate += norm + 2 * cross;
+    return norm;
+}
+
+/* The lowest unread row from a place on; or how many rows there are. */
+static size_t lowest_unread(const uint8_t *restrict flags, size_t rows, size_t from)
+{
+    while (from < rows && flags[from] == 0) {
+        from++;
+    }
+    return from;
+}
+
+/* Leaves rank and rows read in `counts`, and answers why the run ended. No row below `lowest` is unread. */
+static size_t run(const Lent *lent, double tolerance, bool restart, size_t *restrict counts, double *restrict estimate)
 {
     uint8_t row_flags[1024];
     uint8_t column_flags[1024];
+    size_t rows = lent->rows;
+    size_t most = rows < lent->columns ? rows : lent->columns;
+    size_t next = 0;
+    size_t lowest = 0;
+    for (size_t i = 0; i < 1024; i++) {
+        row_flags[i] = column_flags[i] = 1;
+    }
+    while (counts[0] < most) {
+        read_line(counts[0], lent->columns, lent->samples + next, rows, lent->v, lent->u + next, rows, lent->row);
+        row_flags[next] = 0;
+        lent->row_list[counts[2]++] = (uint16_t)next;
+        size_t j = argmax(lent->row, column_flags, lent->columns);
+        double size = size_of(lent->row[j]);
+        if (restart ? size >= 0x1p-52 && column_flags[j] == 1 : !(size < 0x1p-52)) {
+            double norm = add_term(lent, counts[0]++, j, estimate);
+            column_flags[j] = 0;
+            if (norm <= tolerance * *estimate) {
+                return BBFMM_STOP_TOLERABLE;
+            }
+            next = argmax(lent->column, row_flags, rows);
+        } else if (!restart) {
+            return BBFMM_STOP_SPENT;
+        }
+        if (restart && row_flags[next] == 0 && counts[0] < most) {
+            next = lowest = lowest_unread(row_flags, rows, lowest);
+            if (next == rows) {
+                return BBFMM_STOP_ALL_TRIED;
+            }
+        }
+    }
+    return BBFMM_STOP_USED_UP;
+}
+
+uint8_t plain_aca_partial_pivoting(
+    size_t rows, size_t columns, const double *restrict samples, size_t samples_length, double epsilon, bool restart,
+    double *restrict u, size_t u_length, double *restrict v, size_t v_length, uint16_t *restrict row_list, size_t row_list_length,
+    uint16_t *restrict column_list, size_t column_list_length, double *restrict row, size_t row_length, double *restrict column,
+    size_t column_length, size_t *restrict counts, size_t counts_length, double *restrict estimate, size_t estimate_length)
+{
     size_t most = rows < columns ? rows : columns;
     if (rows > 1024 || columns > 1024) {
         return BBFMM_NO_COUNT;
     }
-    if (samples_length != rows * columns || u_length != most * rows || v_length != most * columns || row_list_length != most ||
-        column_list_length != most || row_length != columns || column_length != rows || counts_length != 3 || estimate_length != 1) {
+    if (samples_length != rows * columns || u_length != most * rows || v_length != most * columns ||
+        row_list_length != (restart ? rows : most) || column_list_length != most || row_length != columns || column_length != rows ||
+        counts_length != 3 || estimate_length != 1) {
         return BBFMM_WRONG_LENGTH;
     }
-    size_t next = 0;
-    double tolerance = epsilon * epsilon;
-    for (size_t i = 0; i < 1024; i++) {
-        row_flags[i] = column_flags[i] = 1;
-    }
+    Lent lent = {rows, columns, samples, u, v, row_list, column_list, row, column};
     counts[0] = 0;
-    counts[1] = 3;
     counts[2] = 0;
     *estimate = 0;
-    for (size_t k = 0; k < most; k++) {
-        sum_terms(k, columns, v, u + next, rows, row);
-        for (size_t j = 0; j < columns; j++) {
-            row[j] = samples[j * rows + next] - row[j];
-        }
-        row_flags[next] = 0;
-        row_list[k] = (uint16_t)next;
-        counts[2]++;
-        size_t j = argmax(row, column_flags, columns);
-        if (size_of(row[j]) < 0x1p-52) {
-            counts[1] = 2;
-            return 0;
-        }
-        double factor = 1 / row[j];
-        for (size_t c = 0; c < columns; c++) {
-            row[c] = row[c] * factor;
-        }
-        sum_terms(k, rows, u, v + j, columns, column);
-        for (size_t i = 0; i < rows; i++) {
-            column[i] = samples[j * rows + i] - column[i];
-        }
-        column_flags[j] = 0;
-        column_list[k] = (uint16_t)j;
-        next = argmax(column, row_flags, rows);
-        double norm = dot(column, column, rows) * dot(row, row, columns);
-        double cross = 0;
-        for (size_t l = 0; l < k; l++) {
-            cross += dot(u + l * rows, column, rows) * dot(v + l * columns, row, columns);
-        }
-        for (size_t i = 0; i < rows; i++) {
-            u[k * rows + i] = column[i];
-        }
-        for (size_t c = 0; c < columns; c++) {
-            v[k * columns + c] = row[c];
-        }
-        *estimate += norm + 2 * cross;
-        counts[0]++;
-        if (norm <= tolerance * *estimate) {
-            counts[1] = 1;
-            return 0;
-        }
-    }
+    counts[1] = run(&lent, epsilon * epsilon, restart, counts, estimate);
     return 0;
 }

@@ -9,7 +9,7 @@ int memcmp(const void *left, const void *right, size_t bytes);
 void *malloc(size_t bytes);
 void *calloc(size_t count, size_t bytes);
 
-enum { CALLS = 23, SIZES = 3, NUMBERS = 1000 };
+enum { CALLS = 24, SIZES = 3, NUMBERS = 1000 };
 
 static const size_t DIMENSIONS[SIZES] = {1, 2, 3};
 static const size_t ORDERS[SIZES] = {2, 8, 16};
@@ -208,7 +208,8 @@ static void sample(bool ours, size_t size)
         d, p, 2, 1, nodes, p, sources, n * d, targets, n * d, block, n * n);
 }
 
-static void cross(bool ours, size_t size)
+/* The row list is as long in both modes, since the block is square. */
+static void cross(bool ours, size_t size, bool restart)
 {
     size_t n = COUNTS[size];
     double *u = written;
@@ -217,7 +218,7 @@ static void cross(bool ours, size_t size)
     double *column = row + n;
     double *estimate = column + n;
     (ours ? bbfmm_aca_partial_pivoting : plain_aca_partial_pivoting)(
-                n, n, samples, n * n, 1e-6, u, n * n, v, n * n, table, n, table + 4096, n, row, n, column, n, answer, 3, estimate, 1);
+        n, n, samples, n * n, 1e-6, restart, u, n * n, v, n * n, table, n, table + 4096, n, row, n, column, n, answer, 3, estimate, 1);
 }
 
 static void choose(bool ours, size_t size, bool is_cutoff)
@@ -269,7 +270,8 @@ static void once(bool ours, size_t call, size_t size)
     case 19: refused(ours, size, 2); break;
     case 20: choose(ours, size, false); break;
     case 21: choose(ours, size, true); break;
-    default: cross(ours, size); break;
+    case 22: cross(ours, size, false); break;
+    default: cross(ours, size, true); break;
     }
 }
 

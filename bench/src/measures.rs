@@ -24,7 +24,7 @@ pub const SHAPES: [(usize, usize); SIZES] = [(1, 2), (2, 8), (3, 16)];
 
 pub type Make = fn(usize) -> Measure;
 
-pub const CALLS: [(&str, Make); 23] = [
+pub const CALLS: [(&str, Make); 24] = [
     ("generate_chebyshev_nodes", polynomials::nodes),
     ("evaluate_chebyshev_polynomials", polynomials::values),
     ("evaluate_chebyshev_polynomials, with derivatives", polynomials::derivatives),
@@ -48,6 +48,7 @@ pub const CALLS: [(&str, Make); 23] = [
     ("argmax_masked", choices::argmax),
     ("calculate_singular_values_cutoff", choices::cutoff),
     ("aca_partial_pivoting", choices::cross),
+    ("aca_partial_pivoting, restart", choices::restart),
 ];
 
 /// Floats between -1 and 1, as many as wanted, in no order.

@@ -1,4 +1,5 @@
-//! Compares our programs with the Rust text on cases drawn from a seed, and stores nothing.
+//! Compares our programs with the Rust text on cases drawn from a seed, and stores nothing. Restart mode,
+//! which the text does not have, is compared with our own writing of its rule.
 
 mod blocks;
 mod calls;
@@ -7,6 +8,7 @@ mod draw;
 mod programs;
 mod tally;
 
+use crate::crosses::ask_restart;
 use crate::floats::Stream;
 use crate::polynomials::ask_nodes;
 use crate::random::Random;
@@ -28,6 +30,24 @@ const MOST_BYTES: usize = 8 << 20;
 
 /// How many bytes a record of the tables has.
 const RECORD: usize = 4;
+
+/// The shapes of which restart mode is asked for every block, and the tolerances for each.
+const SMALL_SHAPES: [(usize, usize); 3] = [(2, 2), (2, 3), (3, 2)];
+const TINY_SHAPES: [(usize, usize); 4] = [(1, 1), (1, 2), (2, 1), (2, 2)];
+const TOLERANCES: [f64; 3] = [0.0, 0.5, 1.0];
+
+/// Zeros of both signs, floats about the least pivot, one whose square overflows, infinity and NaN; and 49,
+/// of which more than the least pivot is left in a column that is used.
+const SPECIAL: [f64; 8] = [
+    0.0,
+    -0.0,
+    f64::EPSILON,
+    f64::EPSILON.next_down(),
+    49.0,
+    -1e200,
+    f64::INFINITY,
+    f64::NAN,
+];
 
 /// Runs the program of the calls on floats; `ask` adds one case at a time, batch after batch.
 fn on_floats(
@@ -108,12 +128,39 @@ fn whole(programs: &Programs) -> Result<usize, String> {
     Ok(tallies.iter().map(|(_, tally)| tally.different).sum())
 }
 
+/// Restart mode on blocks so small that all are asked. Answers how many differ.
+fn small_restarts(programs: &Programs) -> Result<usize, String> {
+    let small = blocks::every(&SMALL_SHAPES, &[-1.0, 0.0, 1.0], &TOLERANCES);
+    let special = blocks::every(&TINY_SHAPES, &SPECIAL, &TOLERANCES);
+    let sets = [
+        ("restart mode, every block of -1, 0, 1", small),
+        ("restart mode, every block of special floats", special),
+    ];
+    let mut different = 0;
+    for (name, set) in sets {
+        let mut blocks = set.iter();
+        let ask = |stream: &mut Stream| {
+            blocks
+                .next()
+                .map_or(Ok(()), |block| ask_restart(stream, block))
+        };
+        let tally = on_floats(programs, set.len(), ask)?;
+        tally.print(name);
+        different += tally.different;
+    }
+    Ok(different)
+}
+
 /// Answers how many cases differ.
 fn compare(programs: &Programs, seed: u64, count: usize) -> Result<usize, String> {
     let mut seeds = Random::new(seed);
-    let mut different = whole(programs)?;
+    let mut different = whole(programs)? + small_restarts(programs)?;
+    let mut start = seeds.clone();
     for (call, name, share) in CALLS {
-        let mut random = seeds.branch();
+        if !call.repeats() {
+            start = seeds.branch();
+        }
+        let mut random = start.clone();
         let ask = |stream: &mut Stream| call.ask(&mut random, stream);
         let tally = on_floats(programs, count.div_ceil(share), ask)
             .map_err(|message| format!("{name}: {message}"))?;

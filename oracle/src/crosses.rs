@@ -1,10 +1,12 @@
-//! Builds the cases that ask for the cross approximation of a block.
+//! Builds the cases that ask for the cross approximation of a block: in the old mode, answered by the
+//! text, or in restart mode, answered by our own rule.
 
 use crate::cross::{self, Block, Cross};
 use crate::cross_blocks::{self, EPSILONS};
 use crate::cross_exact;
 use crate::floats::{Header, Stream, shown};
 use crate::random::{Random, SMALL};
+use crate::restart_rule;
 use crate::special_crosses;
 use oracle::notes::Stop;
 
@@ -32,19 +34,21 @@ fn numbers(list: &[usize]) -> String {
     list.iter().map(|number| format!(" {number}")).collect()
 }
 
-fn line(block: &Block, cross: &Cross) -> String {
+fn line(block: &Block, cross: &Cross, restart: bool) -> String {
     let (factors, notes) = (&cross.factors, &cross.notes);
     let (rows, columns, steps) = (block.rows, block.columns, block.steps());
+    let word = if restart { "restart" } else { "cross" };
+    let listed = if restart { rows } else { steps };
     let lists = [
         shown(&lent(&factors.u, rows * steps, LENT_FACTOR)),
         shown(&lent(&factors.v, columns * steps, LENT_FACTOR)),
-        numbers(&lent(&factors.rows, steps, LENT_PLACE)),
+        numbers(&lent(&factors.rows, listed, LENT_PLACE)),
         numbers(&lent(&factors.columns, steps, LENT_PLACE)),
         shown(&lent(&notes.row, columns, LENT_LINE)),
         shown(&lent(&notes.column, rows, LENT_LINE)),
     ];
     format!(
-        "cross {rows} {columns}: rank {} stop {} rows {}{} |{}",
+        "{word} {rows} {columns}: rank {} stop {} rows {}{} |{}",
         factors.rank,
         notes.stop as u8,
         factors.rows.len(),
@@ -53,8 +57,8 @@ fn line(block: &Block, cross: &Cross) -> String {
     )
 }
 
-/// Adds the case of a block, and answers what the text does.
-pub fn ask(stream: &mut Stream, block: &Block) -> Result<Cross, String> {
+/// What a case of a block begins with. The flag is the mode.
+fn header(block: &Block, restart: bool) -> Result<Header, String> {
     // No factor has more places than the block: each has a side times the shorter side.
     if block.rows.max(block.columns) > LONGEST
         || block.rows * block.columns > MOST_PLACES
@@ -65,17 +69,31 @@ pub fn ask(stream: &mut Stream, block: &Block) -> Result<Cross, String> {
             block.rows, block.columns
         ));
     }
-    let header = Header {
+    Ok(Header {
         kind: CROSS,
         order: block.columns,
         rows: block.rows,
+        flag: restart,
         ..Header::default()
-    };
+    })
+}
+
+/// Adds the case of a block, and answers what the text does.
+pub fn ask(stream: &mut Stream, block: &Block) -> Result<Cross, String> {
+    let header = header(block, false)?;
     let cross = cross::answer(block)?;
     stream.negative_zeros += usize::from(cross.notes.negative_zero);
-    let line = line(block, &cross);
+    let line = line(block, &cross, false);
     stream.case(header, &[&[block.epsilon], &block.entries], &line);
     Ok(cross)
+}
+
+/// Adds the case of a block in restart mode, with what our own rule answers: the text has no such mode.
+pub fn ask_restart(stream: &mut Stream, block: &Block) -> Result<(), String> {
+    let header = header(block, true)?;
+    let line = line(block, &restart_rule::run(block), true);
+    stream.case(header, &[&[block.epsilon], &block.entries], &line);
+    Ok(())
 }
 
 /// Every shape up to five by five, so that the answers are written out.

@@ -20,6 +20,7 @@ mod points;
 mod polynomials;
 mod random;
 mod replay;
+mod restart_rule;
 mod special_cells;
 mod special_crosses;
 mod transfers;

@@ -3,13 +3,15 @@
 use faer::Mat;
 use std::cell::RefCell;
 
-/// Why a run ended; the numbers are those of the line.
+/// Why a run ended; the numbers are those of the line. The text never ends with the last, which only
+/// restart mode has.
 #[derive(Clone, Copy, Debug, Default, PartialEq)]
 pub enum Stop {
     Reached = 1,
     NearZero = 2,
     #[default]
     UsedUp = 3,
+    AllTried = 4,
 }
 
 /// What a run has shown; the row and the column are empty until there is one.

@@ -4,6 +4,7 @@
 pub const SMALL: [f64; 7] = [-3.0, -2.0, -1.0, 0.0, 1.0, 2.0, 3.0];
 
 /// The generator splitmix64: a counter whose values are mixed.
+#[derive(Clone)]
 pub struct Random {
     state: u64,
 }

@@ -55,8 +55,8 @@ static bool run(size_t dimension, size_t order, size_t reference, size_t count, 
         return false;
     }
     if (bbfmm_aca_partial_pivoting(
-            count, count, block, all, EPSILON, u, all, v, all, row_list, count, column_list, count, row, count, column, count,
-            counts, 3, &estimate, 1) != BBFMM_DONE) {
+            count, count, block, all, EPSILON, false, u, all, v, all, row_list, count, column_list, count, row, count, column,
+            count, counts, 3, &estimate, 1) != BBFMM_DONE) {
         return false;
     }
     *found = compare(count, counts);

@@ -1,5 +1,5 @@
-/* Kind 10: a tolerance, and a block, column by column, that is approximated. Its columns stand in the place of an order. What is lent
-   is filled with numbers that no call writes, so that a place that stays as it was is seen. */
+/* Kind 10: a tolerance, and a block, column by column, that is approximated, in restart mode where the flag says so. Its columns stand
+   in the place of an order. What is lent is filled with numbers that no call writes, so that a place that stays as it was is seen. */
 #include "replay.h"
 
 enum { ROOM = 4096, LINE = 255, LIST = 64 };
@@ -7,7 +7,7 @@ enum { ROOM = 4096, LINE = 255, LIST = 64 };
 static double samples[ROOM];
 static double u[ROOM];
 static double v[ROOM];
-static uint16_t row_list[LIST];
+static uint16_t row_list[LINE];
 static uint16_t column_list[LIST];
 static double row[LINE];
 static double column[LINE];
@@ -23,9 +23,10 @@ static void fill(void)
         u[i] = v[i] = 7;
     }
     for (size_t i = 0; i < LIST; i++) {
-        row_list[i] = column_list[i] = 9999;
+        column_list[i] = 9999;
     }
     for (size_t i = 0; i < LINE; i++) {
+        row_list[i] = 9999;
         row[i] = column[i] = 5;
     }
 }
@@ -56,13 +57,14 @@ void replay_aca(Case c)
     size_t listed = up_to(LIST, most);
     size_t tall = up_to(LINE, c.rows);
     size_t wide = up_to(LINE, columns);
+    size_t rows_listed = c.flag ? tall : listed;
     read_floats(&epsilon, 1);
     read_floats(samples, area(c.rows, columns));
     fill();
     uint8_t refusal = bbfmm_aca_partial_pivoting(
-        c.rows, columns, samples, area(c.rows, columns), epsilon, u, area(c.rows, most), v, area(columns, most), row_list, listed,
-        column_list, listed, row, wide, column, tall, counts, 3, estimate, 1);
-    printf("cross %zu %zu:", c.rows, columns);
+        c.rows, columns, samples, area(c.rows, columns), epsilon, c.flag, u, area(c.rows, most), v, area(columns, most), row_list,
+        rows_listed, column_list, listed, row, wide, column, tall, counts, 3, estimate, 1);
+    printf("%s %zu %zu:", c.flag ? "restart" : "cross", c.rows, columns);
     if (refusal == 0) {
         printf(" rank %zu stop %zu rows %zu", counts[0], counts[1], counts[2]);
         put_float(estimate[0]);
@@ -70,7 +72,7 @@ void replay_aca(Case c)
         printf(" refused %u", refusal);
     }
     put_pair(u, area(c.rows, most), v, area(columns, most));
-    put_list(row_list, listed);
+    put_list(row_list, rows_listed);
     put_list(column_list, listed);
     put_pair(row, wide, column, tall);
     printf("\n");

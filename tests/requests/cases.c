@@ -197,6 +197,7 @@ static Answer *answer_of(const char *file)
         {"e02_node", answer_e02_node},
         {"e03_sqrt", answer_e03_sqrt},
         {"e03_sampler", answer_e03_sampler},
+        {"e04_cross", answer_e04_cross},
     };
     for (size_t i = 0; i < sizeof all / sizeof all[0]; i++) {
         if (strcmp(all[i].file, file) == 0) {

@@ -43,5 +43,6 @@ Answer answer_e01_cell;
 Answer answer_e02_node;
 Answer answer_e03_sqrt;
 Answer answer_e03_sampler;
+Answer answer_e04_cross;
 
 #endif

@@ -1,9 +1,9 @@
-//! Masked argmax, rank cutoff and cross approximation.
+//! Masked argmax, rank cutoff and cross approximation, which has two modes; the text has the old one.
 
 use super::{Measure, floats};
 use crate::aca::{self, doors};
 use faer::Mat;
-use ours::Buffers;
+use ours::{Buffers, Mode};
 use std::hint::black_box;
 
 const COUNTS: [usize; 3] = [16, 128, 1024];
@@ -51,14 +51,14 @@ fn floor(count: usize, rank: usize) -> usize {
     (0..rank).map(|earlier| 2 * count * (2 * earlier + 1) + count).sum()
 }
 
-pub fn cross(size: usize) -> Measure {
-    let count = COUNTS[size];
+/// Approximates a smooth block as often as it is called, and answers the rank. The block has no bad row, so that both modes find
+/// the same; it is square, so that the list of rows is as long in both.
+fn approximate(count: usize, mode: Mode) -> impl FnMut() -> usize {
     let samples = block(count);
-    let same = samples.clone();
     let (mut u, mut v) = (vec![0.0; count * count], vec![0.0; count * count]);
     let (mut row_list, mut column_list) = (vec![0; count], vec![0; count]);
     let (mut row, mut column) = (vec![0.0; count], vec![0.0; count]);
-    let mut approximate = move || {
+    move || {
         let mut buffers = Buffers {
             u: &mut u,
             v: &mut v,
@@ -67,8 +67,13 @@ pub fn cross(size: usize) -> Measure {
             row: &mut row,
             column: &mut column,
         };
-        ours::aca_partial_pivoting(count, count, black_box(&samples), 1e-6, &mut buffers).expect("lengths").rank
-    };
+        ours::aca_partial_pivoting(count, count, black_box(&samples), 1e-6, mode, &mut buffers).expect("lengths").rank
+    }
+}
+
+fn cross_of(size: usize, mode: Mode, text: Option<Box<dyn FnMut()>>) -> Measure {
+    let count = COUNTS[size];
+    let mut approximate = approximate(count, mode);
     let rank = approximate();
     Measure {
         given: format!("{count} by {count}, of rank {rank}"),
@@ -76,11 +81,22 @@ pub fn cross(size: usize) -> Measure {
         ours: Box::new(move || {
             black_box(approximate());
         }),
-        text: Some(Box::new(move || {
-            let part = |&top: &usize, &bottom: &usize, &left: &usize, &right: &usize| {
-                Mat::from_fn(bottom - top, right - left, |i, j| same[(left + j) * count + top + i])
-            };
-            drop(black_box(aca::aca_partial_pivoting(count, count, part, black_box(&1e-6))))
-        })),
+        text,
     }
+}
+
+pub fn cross(size: usize) -> Measure {
+    let count = COUNTS[size];
+    let same = block(count);
+    let text = move || {
+        let part = |&top: &usize, &bottom: &usize, &left: &usize, &right: &usize| {
+            Mat::from_fn(bottom - top, right - left, |i, j| same[(left + j) * count + top + i])
+        };
+        drop(black_box(aca::aca_partial_pivoting(count, count, part, black_box(&1e-6))))
+    };
+    cross_of(size, Mode::Old, Some(Box::new(text)))
+}
+
+pub fn restart(size: usize) -> Measure {
+    cross_of(size, Mode::Restart, None)
 }

@@ -3,21 +3,38 @@
 use crate::refusal::{Refusal, told};
 use crate::sys;
 
-/// Why a cross approximation ended. The first two do not say that the rest of the block is small:
-/// rows and columns that were never read are unknown to the run.
+/// How a cross approximation goes on where it finds nothing. Take [`Mode::Restart`], unless the
+/// answers must be those of the ported program, which has the old mode only.
+#[derive(Clone, Copy, Debug, PartialEq, Eq, Hash)]
+pub enum Mode {
+    /// The run ends at the first row without a usable pivot, and it may read a row and a column
+    /// twice. Rows may be left that were never read.
+    Old,
+    /// The run goes on with the lowest row that was not read yet, where a row has no usable pivot,
+    /// and where the row that would be next was read already. No row and no column is read twice.
+    Restart,
+}
+
+/// Why a cross approximation ended. None of these bounds the error: what was never read is unknown
+/// to the run.
 #[derive(Clone, Copy, Debug, PartialEq, Eq, Hash)]
 #[repr(u8)]
 pub enum Stop {
     /// The last term is small against the estimate: norm <= (epsilon*epsilon) * estimate.
     Tolerable = 1,
-    /// The pivot of the row that was read is below 2^-52 in size; a NaN is not.
+    /// The row that was read has no usable pivot: its pivot is below 2^-52 in size, which a NaN is
+    /// not. This says nothing of other rows. Only the old mode ends so.
     Spent = 2,
     /// There are as many terms as the block has rows or columns.
     UsedUp = 3,
+    /// Every row has been tried: it was read, and gave a term or had no usable pivot, which is a
+    /// residual of at least 2^-52 in a column not used before; a NaN is none. Only restart mode
+    /// ends so.
+    AllTried = 4,
 }
 
 impl Stop {
-    /// The number of the stop, from 1 to 3, as the library and its documents give it.
+    /// The number of the stop, from 1 to 4, as the library and its documents give it.
     #[must_use]
     pub fn number(self) -> u8 {
         self as u8
@@ -29,7 +46,8 @@ impl Stop {
             1 => Stop::Tolerable,
             2 => Stop::Spent,
             3 => Stop::UsedUp,
-            _ => unreachable!("a libbbfmm.a of this version answers 1 to 3"),
+            4 => Stop::AllTried,
+            _ => unreachable!("a libbbfmm.a of this version answers 1 to 4"),
         }
     }
 }
@@ -42,7 +60,7 @@ pub struct Report {
     pub rank: usize,
     /// Why the run ended.
     pub stop: Stop,
-    /// How many rows were read.
+    /// How many rows were read, those without a usable pivot too.
     pub rows_read: usize,
     /// The estimate of the approximation's squared norm.
     pub estimate: f64,
@@ -56,14 +74,16 @@ pub struct Buffers<'a> {
     pub u: &'a mut [f64],
     /// V, n by k. Beyond the rank its columns stay as lent.
     pub v: &'a mut [f64],
-    /// k entries. They become the rows that were read, in order; unused places stay as lent.
+    /// k entries in the old mode, m in restart mode. They become the rows that were read, in order,
+    /// those without a usable pivot too; unused places stay as lent.
     pub row_list: &'a mut [u16],
     /// k entries. They become the columns that were read, in order; unused places stay as lent.
     pub column_list: &'a mut [u16],
-    /// n entries, room to work in. They become the row that was last worked on, if one was:
-    /// multiplied by 1/pivot, unless it was spent.
+    /// n entries, room to work in. They become the row that was last read, if one was, less the
+    /// earlier terms, and multiplied by 1/pivot if its pivot was usable.
     pub row: &'a mut [f64],
-    /// m entries, room to work in. They become the column that was last worked on, if one was.
+    /// m entries, room to work in. They become the column that was last read, if one was, less the
+    /// earlier terms.
     pub column: &'a mut [f64],
 }
 
@@ -72,6 +92,8 @@ pub struct Buffers<'a> {
 /// error.
 ///
 /// - `samples`: rows by columns, the block.
+/// - `mode`: how the run goes on where it finds nothing. In restart mode `row_list` has an entry a
+///   row, so that it is longer than in the old mode where the block has more rows than columns.
 ///
 /// # Errors
 ///
@@ -79,13 +101,16 @@ pub struct Buffers<'a> {
 ///
 /// # Examples
 ///
-/// ```
-/// use bbfmm::{Buffers, Refusal, Report, Stop, aca_partial_pivoting};
+/// The unit block of two by two. The old mode ends with one row untouched, after reading row 0
+/// twice. Restart mode reads both rows, and finds both terms.
 ///
-/// // The rows (2, 4) and (1, 2).
-/// let samples = [2.0, 1.0, 4.0, 2.0];
+/// ```
+/// use bbfmm::{Buffers, Mode, Refusal, Report, Stop, aca_partial_pivoting};
+///
+/// // The rows (1, 0) and (0, 1).
+/// let samples = [1.0, 0.0, 0.0, 1.0];
 /// let (mut u, mut v) = ([0.0; 4], [0.0; 4]);
-/// let (mut row_list, mut column_list) = ([0; 2], [0; 2]);
+/// let (mut row_list, mut column_list) = ([9; 2], [9; 2]);
 /// let (mut row, mut column) = ([0.0; 2], [0.0; 2]);
 /// let mut buffers = Buffers {
 ///     u: &mut u,
@@ -95,15 +120,56 @@ pub struct Buffers<'a> {
 ///     row: &mut row,
 ///     column: &mut column,
 /// };
-/// let report = aca_partial_pivoting(2, 2, &samples, 1.0, &mut buffers)?;
-/// let expected = Report { rank: 1, stop: Stop::Tolerable, rows_read: 1, estimate: 25.0 };
+///
+/// let report = aca_partial_pivoting(2, 2, &samples, 0.5, Mode::Old, &mut buffers)?;
+/// let expected = Report { rank: 1, stop: Stop::Spent, rows_read: 2, estimate: 1.0 };
 /// assert_eq!(report, expected);
+/// assert_eq!(buffers.row_list, [0, 0]);
+/// assert_eq!(buffers.column_list, [0, 9]);
+///
+/// let report = aca_partial_pivoting(2, 2, &samples, 0.5, Mode::Restart, &mut buffers)?;
+/// let expected = Report { rank: 2, stop: Stop::UsedUp, rows_read: 2, estimate: 2.0 };
+/// assert_eq!(report, expected);
+/// assert_eq!(buffers.row_list, [0, 1]);
+/// assert_eq!(buffers.column_list, [0, 1]);
+///
 /// assert_eq!(
-///     aca_partial_pivoting(2, 1_025, &samples, 1.0, &mut buffers),
+///     aca_partial_pivoting(2, 1_025, &samples, 0.5, Mode::Old, &mut buffers),
 ///     Err(Refusal::NoCount)
 /// );
-/// assert_eq!(u[..2], [4.0, 2.0]);
-/// assert_eq!(v[..2], [0.5, 1.0]);
+/// assert_eq!(u, [1.0, 0.0, 0.0, 1.0]);
+/// assert_eq!(v, [1.0, 0.0, 0.0, 1.0]);
+/// # Ok::<(), Refusal>(())
+/// ```
+///
+/// A row of zeros ends the old mode at once. Restart mode tries the other rows too, and says when
+/// there are no more.
+///
+/// ```
+/// # use bbfmm::{Buffers, Mode, Refusal, Stop, aca_partial_pivoting};
+/// // The rows (0), (3) and (6). Restart mode wants room for all three in `row_list`.
+/// let samples = [0.0, 3.0, 6.0];
+/// let (mut u, mut v) = ([0.0; 3], [0.0; 1]);
+/// let (mut row_list, mut column_list) = ([9; 3], [9; 1]);
+/// let (mut row, mut column) = ([0.0; 1], [0.0; 3]);
+/// # let mut buffers = Buffers {
+/// #     u: &mut u,
+/// #     v: &mut v,
+/// #     row_list: &mut row_list,
+/// #     column_list: &mut column_list,
+/// #     row: &mut row,
+/// #     column: &mut column,
+/// # };
+/// let refused = aca_partial_pivoting(3, 1, &samples, 0.5, Mode::Old, &mut buffers);
+/// assert_eq!(refused, Err(Refusal::WrongLength));
+///
+/// let report = aca_partial_pivoting(3, 1, &samples, 0.5, Mode::Restart, &mut buffers)?;
+/// assert_eq!((report.rank, report.stop, report.rows_read), (1, Stop::UsedUp, 2));
+///
+/// let report = aca_partial_pivoting(3, 1, &[0.0; 3], 0.5, Mode::Restart, &mut buffers)?;
+/// assert_eq!((report.rank, report.stop, report.rows_read), (0, Stop::AllTried, 3));
+/// assert_eq!(row_list, [0, 1, 2]);
+/// assert_eq!(u, [0.0, 3.0, 6.0]);
 /// # Ok::<(), Refusal>(())
 /// ```
 pub fn aca_partial_pivoting(
@@ -111,6 +177,7 @@ pub fn aca_partial_pivoting(
     columns: usize,
     samples: &[f64],
     epsilon: f64,
+    mode: Mode,
     buffers: &mut Buffers<'_>,
 ) -> Result<Report, Refusal> {
     let mut counts = [0; 3];
@@ -120,6 +187,7 @@ pub fn aca_partial_pivoting(
         columns,
         samples,
         epsilon,
+        mode == Mode::Restart,
         buffers,
         &mut counts,
         &mut estimate,

@@ -49,7 +49,7 @@ mod sys;
 mod transfer;
 mod turn;
 
-pub use aca::{Buffers, Report, Stop, aca_partial_pivoting};
+pub use aca::{Buffers, Mode, Report, Stop, aca_partial_pivoting};
 pub use chebyshev::{evaluate_chebyshev_polynomials, generate_chebyshev_nodes};
 pub use choices::{argmax_masked, calculate_singular_values_cutoff};
 pub use coefficients::{Cell, Gradients, get_approximation_coefficients};

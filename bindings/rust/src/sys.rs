@@ -183,6 +183,7 @@ unsafe extern "C" {
         samples: *const f64,
         samples_length: usize,
         epsilon: f64,
+        restart: bool,
         u: *mut f64,
         u_length: usize,
         v: *mut f64,
@@ -480,17 +481,19 @@ pub(crate) fn calculate_singular_values_cutoff(
     }
 }
 
+#[expect(clippy::too_many_arguments, reason = "they are those of the call")]
 pub(crate) fn aca_partial_pivoting(
     rows: usize,
     columns: usize,
     samples: &[f64],
     epsilon: f64,
+    restart: bool,
     buffers: &mut Buffers<'_>,
     counts: &mut [usize; 3],
     estimate: &mut [f64; 1],
 ) -> u8 {
     // SAFETY: nine slices by their pointers and lengths. `samples` is only read; the six of
-    // `buffers`, each borrowed mutably, and the two arrays overlap nothing.
+    // `buffers`, each borrowed mutably, and the two arrays overlap nothing. The bool is Rust's.
     unsafe {
         bbfmm_aca_partial_pivoting(
             rows,
@@ -498,6 +501,7 @@ pub(crate) fn aca_partial_pivoting(
             samples.as_ptr(),
             samples.len(),
             epsilon,
+            restart,
             buffers.u.as_mut_ptr(),
             buffers.u.len(),
             buffers.v.as_mut_ptr(),

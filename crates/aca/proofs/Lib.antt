@@ -1,4 +1,6 @@
 pub mod Repeated
 pub mod Answers
 pub mod Facts
+pub mod Before
+pub mod Fresh
 pub mod Determined

@@ -1,22 +1,25 @@
 -- The run in memory is the rule's: after so many steps what is left of it, from where the memory stands, is the whole run. Assumes nothing.
 use mathlib.Core.Path.{_≡_, refl, sym, ap, subst, _∙_}
 use mathlib.Core.List.{List}
+use mathlib.Core.Bool.{Bool}
 use Prim.Native.Nat.{ℕ, suc, _+_, _-_, _*_, _<_, _≤_}
 use native.Mathlib.Nat.{zero-mul, mul-le-mul-right}
 use native.Mathlib.Omega.{arith}
 use lib.Ieee.{Float}
 use lib.ListN.{length, take}
 use lib.Seq.{length-take-le}
+use Rattle.common.proofs.Cases.{by-eq}
 use Rattle.common.proofs.Matrices.{column-fits}
 use Rattle.aca_steps.specs.Crosses.{usedUp, Block, Found, Outcome, step}
 use Rattle.aca_steps.specs.Memories.{Memory, laid, blockOf}
-use Rattle.aca_steps.specs.Standing.{standing, Marks, Ready, made, Stepped}
+use Rattle.aca_steps.specs.Standing.{standing, Marks, RowsKnown, Ready, made, Stepped}
 use Rattle.aca_steps.specs.declared.Progress.{Progress}
+use Rattle.aca_steps.specs.declared.Reading.{Reading}
 use Rattle.aca_steps.specs.declared.Step.{Step}
 use Rattle.aca_steps.specs.declared.Step.the-variants.{More, Stop}
 use Rattle.aca_steps.proofs.Fronts.{upon-upon, take-upon}
 use Rattle.aca_steps.proofs.Ways.{Counts, Took, step-took}
-use Rattle.aca.specs.Runs.{Finish, finish, followed, run, begin, reported, report, start}
+use Rattle.aca.specs.Runs.{Finish, finish, followed, run, stepsOf, begin, reported, report, start}
 use Rattle.aca.specs.Working.{Begun, ran, Ran}
 
 -- WHAT IS LAID OVER LENT MEMORY
@@ -84,37 +87,54 @@ alike-both t t' t'' h l =
       column-same = l .column-same ∙ h .column-same;
     }
 
-module _ (samples : List Float) (tolerance : Float) (t₀ : Memory) where
+-- where a step is left, the row list has a place for it, and there can be a term
+pub steps-left : (places terms read : ℕ) → read < stepsOf places terms → (read < places) × (0 < terms)
+steps-left places terms read = by-eq terms 0 (λ z e. rw e (λ l. absurd (omega arith))) (λ z e. rw e (λ l. (l, omega arith)))
+
+module _ (samples : List Float) (tolerance : Float) (restart : Bool) (t₀ : Memory) where
   abbrev most : ℕ
-  most = length (t₀ .«row-list»)
+  most = stepsOf (length (t₀ .«row-list»)) (length (t₀ .«column-list»))
 
   abbrev block : Block
   block = blockOf (length (t₀ .column)) (length (t₀ .row)) samples
 
   abbrev whole : Finish
-  whole = ran samples tolerance t₀
+  whole = ran samples tolerance restart t₀
 
-  -- what the loop keeps after so many rows were read; each has given a term
-  pub record Going (t : Memory) (rows columns : List ℕ) (s : Progress) (read : ℕ) : Type 0 where
+  -- what the loop keeps after so many rows were read
+  pub record Going (t : Memory) (rows columns : List ℕ) (s : Progress) (read low : ℕ) : Type 0 where
     pub within : read ≤ most
-    pub term : s .rank ≡ read
+    pub term : read < most → s .rank < length (t₀ .«column-list»)
     pub row-in : read < most → s .next < length (t₀ .column)
+    pub known : read < most → RowsKnown low (length (t₀ .column)) rows
     pub alike : Alike t₀ t
-    pub rest : run (most - read) block tolerance s (standing read (s .rank) t) ≡ whole
+    pub rest : run (most - read) restart block tolerance s (standing read (s .rank) t) ≡ whole
     pub kept : t ≡ laid (standing read (s .rank) t) t₀
     pub rows-marked : Marks rows (take read (t .«row-list»))
     pub columns-marked : Marks columns (take (s .rank) (t .«column-list»))
 
   module _ (rows columns : List ℕ) (b : Begun (length samples) t₀ rows columns) where
-    pub going-none : Going t₀ rows columns begin 0
+    -- where a step is left, the block has rows and columns
+    some-rows : 0 < most → (0 < length (t₀ .column)) × (0 < length (t₀ .row))
+    some-rows l =
+        let terms = steps-left (length (t₀ .«row-list»)) (length (t₀ .«column-list»)) 0 l .1 in
+        (omega (arith, b .sizes .terms), omega (arith, b .sizes .terms))
+
+    pub going-none : Going t₀ rows columns begin 0 0
     unfolding laid
     going-none =
         let none : standing 0 0 t₀ ≡ start t₀ = rw (zero-mul (length (t₀ .column)), zero-mul (length (t₀ .row))) in
         let all : most - 0 ≡ most = omega arith in
         record {
           within = omega arith;
-          term = refl;
-          row-in = λ h. omega (arith, b .short);
+          term = λ h. steps-left (length (t₀ .«row-list»)) (length (t₀ .«column-list»)) 0 h .1;
+          row-in = λ h. some-rows h .0;
+          known = λ h. record {
+            some = some-rows h .0;
+            tall = b .sizes .tall;
+            low-most = omega arith;
+            below = λ k l. absurd (omega (arith, l));
+          };
           alike = record { us-same = refl; vs-same = refl; rows-same = refl; columns-same = refl; row-same = refl; column-same = refl };
           rest = rw (none, all);
           kept = ap (λ (f : Found). laid f t₀) (sym none);
@@ -122,9 +142,12 @@ module _ (samples : List Float) (tolerance : Float) (t₀ : Memory) where
           columns-marked = b .columns-marked;
         }
 
-    module _ (t : Memory) (rows' columns' : List ℕ) (s : Progress) (read : ℕ) (g : Going t rows' columns' s read) where
+    module _ (t : Memory) (rows' columns' : List ℕ) (s : Progress) (read low : ℕ) (g : Going t rows' columns' s read low) where
+      most-places : most ≤ length (t₀ .«row-list»)
+      most-places = by-eq (length (t₀ .«column-list»)) 0 (λ z e. rw e (omega arith)) (λ z e. rw e (omega arith))
+
       rows-long : length (take read (t .«row-list»)) ≡ read
-      rows-long = length-take-le read (t .«row-list») (omega (arith, g .within, g .alike .rows-same))
+      rows-long = length-take-le read (t .«row-list») (omega (arith, g .within, most-places, g .alike .rows-same))
 
       -- no step is left
       pub ends : most ≤ read → Ran whole t₀ (reported usedUp s read) t
@@ -139,7 +162,14 @@ module _ (samples : List Float) (tolerance : Float) (t₀ : Memory) where
         abbrev f : Found
         f = standing read (s .rank) t
 
-        pub ready : Ready (length samples) t s read rows' columns'
+        -- how the row is read
+        abbrev reading : Reading
+        reading = record { restart = restart; read = read; low = low }
+
+        left : (read < length (t₀ .«row-list»)) × (0 < length (t₀ .«column-list»))
+        left = steps-left (length (t₀ .«row-list»)) (length (t₀ .«column-list»)) read l
+
+        pub ready : Ready (length samples) t reading s rows' columns'
         ready =
             let z = b .sizes in
             let a = g .alike in
@@ -149,23 +179,25 @@ module _ (samples : List Float) (tolerance : Float) (t₀ : Memory) where
                     tall = rw (a .column-same) (z .tall);
                     wide = rw (a .row-same) (z .wide);
                     block = rw (a .column-same, a .row-same) (z .block);
+                    terms = rw (a .column-same, a .row-same, a .columns-same) (z .terms);
                     u-room = rw (a .column-same, a .columns-same, a .us-same) (z .u-room);
                     v-room = rw (a .row-same, a .columns-same, a .vs-same) (z .v-room);
                   };
-              reading = omega (arith, a .rows-same);
-              term = omega (arith, a .columns-same, b .lists, g .term);
-              few = omega (arith, g .term, b .short, z .tall);
+              place = omega (arith, a .rows-same, left .0);
+              term = omega (arith, a .columns-same, g .term l);
+              few = omega (arith, g .term l, z .terms, z .tall);
               row-in = rw (a .column-same) (g .row-in l);
-              column-in = omega (arith, a .row-same, b .narrow);
+              column-in = omega (arith, a .row-same, left .1, z .terms);
+              known = rw (a .column-same) (g .known l);
               rows-marked = g .rows-marked;
               columns-marked = g .columns-marked;
             }
 
         -- the step that the rule makes next
         abbrev o : Outcome
-        o = step block tolerance s f
+        o = step restart block tolerance s f
 
-        next : followed (o .answer) (o .found) (run (most - (read + 1)) block tolerance) ≡ whole
+        next : followed (o .answer) (o .found) (run (most - (read + 1)) restart block tolerance) ≡ whole
         unfolding run
         next = let one : most - read ≡ suc (most - (read + 1)) = omega arith in rw one at (g .rest)
 
@@ -173,7 +205,7 @@ module _ (samples : List Float) (tolerance : Float) (t₀ : Memory) where
         counts =
             let a = g .alike in
             let z = b .sizes in
-            let term : s .rank < length (t₀ .«column-list») = omega (arith, g .term, b .lists) in
+            let term = g .term l in
             let left = column-fits (s .rank) (length (t₀ .«column-list»)) (length (t₀ .column)) _ term refl in
             let right = column-fits (s .rank) (length (t₀ .«column-list»)) (length (t₀ .row)) _ term refl in
             record {
@@ -183,16 +215,16 @@ module _ (samples : List Float) (tolerance : Float) (t₀ : Memory) where
               vs-long = rw (a .row-same) (length-take-le _ (t .vs) (omega (arith, a .vs-same, z .v-room)));
             }
 
-        took : Took block read (s .rank) (o .answer) (o .found)
-        took = step-took block tolerance s f read (omega (arith, b .short)) counts
+        took : Took restart block read (s .rank) (o .answer) (o .found)
+        took = step-took restart block tolerance s f read (omega (arith, g .term l, b .sizes .terms)) counts
 
         module _ (r : Step) (t' : Memory) (rows'' columns'' : List ℕ)
-            (d : Stepped (made samples tolerance s read t) t r t' rows'' columns'') where
+            (d : Stepped low (made samples tolerance reading s t) t r t' rows'' columns'') where
           -- the step is that of the block's own run
-          done : Stepped o t r t' rows'' columns''
+          done : Stepped low o t r t' rows'' columns''
           done =
               let same : blockOf (length (t .column)) (length (t .row)) samples ≡ block = rw (g .alike .column-same, g .alike .row-same) in
-              subst (λ (x : Block). Stepped (step x tolerance s f) t r t' rows'' columns'') same d
+              subst (λ (x : Block). Stepped low (step restart x tolerance s f) t r t' rows'' columns'') same d
 
           over-all : t' ≡ laid (o .found) t₀
           over-all =
@@ -206,11 +238,16 @@ module _ (samples : List Float) (tolerance : Float) (t₀ : Memory) where
               let last : finish w s' (o .found) ≡ whole = rw answer at next in
               rw (← last) record { report-is = rw (took .counts .rows-long); memory-is = over-all }
 
-          pub goes : (s' : Progress) → r ≡ More s' → Alike t t' → Going t' rows'' columns'' s' (read + 1)
+          -- what is known of the rows after it
+          pub known-after : RowsKnown low (length (t₀ .column)) rows''
+          known-after = rw (g .alike .column-same) at (done .known)
+
+          pub goes : (s' : Progress) (low' : ℕ) → r ≡ More s' → RowsKnown low' (length (t₀ .column)) rows'' → Alike t t' →
+              Going t' rows'' columns'' s' (read + 1) low'
           unfolding followed
-          goes s' e same =
+          goes s' low' e still same =
               let answer : o .answer ≡ More s' = sym (done .answer-is) ∙ e in
-              let onward : Took block read (s .rank) (More s') (o .found) = rw answer at took in
+              let onward : Took restart block read (s .rank) (More s') (o .found) = rw answer at took in
               let all = alike-both t₀ t t' (g .alike) same in
               let stands : standing (read + 1) (s' .rank) t' ≡ o .found =
               ap (standing (read + 1) (s' .rank)) (done .memory-is)
@@ -218,8 +255,9 @@ module _ (samples : List Float) (tolerance : Float) (t₀ : Memory) where
               (column-of (o .found) t t' (done .memory-is) ∙ all .column-same) (row-of (o .found) t t' (done .memory-is) ∙ all .row-same) in
               record {
                 within = omega arith;
-                term = onward .goes .0 ∙ ap (λ (x : ℕ). x + 1) (g .term);
+                term = λ _. omega (arith, onward .goes .0, b .sizes .terms);
                 row-in = λ _. onward .goes .1;
+                known = λ _. still;
                 alike = all;
                 rest = rw stands (rw answer at next);
                 kept = over-all ∙ ap (λ (x : Found). laid x t₀) (sym stands);

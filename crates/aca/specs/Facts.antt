@@ -1,16 +1,19 @@
--- What document 01 says of a run, as facts of the definition. proofs/Facts.antt proves them of every block, epsilon and lent memory.
-use Prim.Native.Nat.{ℕ, _+_, _*_, _≤_, min}
+-- What documents 01 and 02 say of a run, as facts of the definition. proofs/Facts.antt and proofs/Fresh.antt prove them of every block,
+-- epsilon and lent memory.
+use Prim.Native.Nat.{ℕ, _+_, _*_, _<_, _≤_, min}
 use mathlib.Core.Path.{_≡_}
+use mathlib.Core.Bool.{Bool, true, false}
 use mathlib.Core.Logic.{_⊎_}
 use mathlib.Core.List.{List, _++_}
 use lib.Ieee.{Float}
-use lib.ListN.{length, drop}
-use Rattle.aca_steps.specs.Crosses.{Found, tolerable, spent, usedUp}
+use lib.ListN.{length, getD, drop}
+use Rattle.aca_steps.specs.Crosses.{Found, unread, tolerable, spent, usedUp, allTried}
 use Rattle.aca_steps.specs.Memories.{Memory, laid}
-use Rattle.aca.specs.Runs.{finish, begin, start, approximation}
+use Rattle.aca.specs.Runs.{finish, begin, start, listed, approximation}
+use Rattle.aca.specs.Before as before
 
--- of a run that ended for the reason w, with this rank, and found this
-pub record Facts (m n w rank : ℕ) (f : Found) (t : Memory) : Type 0 where
+-- IN EITHER MODE, of a run that ended with this rank and found this
+pub record Facts (restart : Bool) (m n rank : ℕ) (f : Found) (t : Memory) : Type 0 where
   -- as many columns are read as the rank says, and that is at most min(m,n)
   pub columns-read : length (f .columns) ≡ rank
   pub rank-most : rank ≤ min m n
@@ -19,17 +22,46 @@ pub record Facts (m n w rank : ℕ) (f : Found) (t : Memory) : Type 0 where
   pub vs-filled : length (f .vs) ≡ rank * n
   pub us-kept : laid f t .us ≡ f .us ++ drop (rank * m) (t .us)
   pub vs-kept : laid f t .vs ≡ f .vs ++ drop (rank * n) (t .vs)
+  -- the rows read are at most min(m,n), and in restart mode at most m
+  pub rows-most : length (f .rows) ≤ listed restart m n
+
+-- IN THE OLD MODE, where it ended for the reason w
+pub record OldFacts (m n w rank : ℕ) (f : Found) : Type 0 where
   -- the stop is 1, 2 or 3; and 3 only at rank min(m,n)
   pub stops : (w ≡ tolerable) ⊎ ((w ≡ spent) ⊎ (w ≡ usedUp))
   pub full : w ≡ usedUp → rank ≡ min m n
-  -- the rows read are as many as the rank, or one more at stop 2; and at most min(m,n)
+  -- the rows read are as many as the rank, or one more at stop 2
   pub rows-read : (w ≡ spent → ⊥) → length (f .rows) ≡ rank
   pub rows-read-spent : w ≡ spent → length (f .rows) ≡ rank + 1
-  pub rows-most : length (f .rows) ≤ min m n
 
-abbrev pub RunFacts : (m n : ℕ) → (samples : List Float) → (epsilon : Float) → Memory → Type 0
-RunFacts m n a epsilon t = let e = approximation m n a epsilon t in Facts m n (e .stop) (e .state .rank) (e .found) t
+-- no number stands twice in a list
+abbrev pub Distinct : List ℕ → Type 0
+Distinct l = (i j : ℕ) → i < j → j < length l → getD l i 0 ≡ getD l j 0 → ⊥
 
--- a block with no rows or no columns ends as it began, for the reason 3: rank 0, estimate +0.0, and nothing is read
-abbrev pub NothingRead : (m n : ℕ) → (samples : List Float) → (epsilon : Float) → Memory → Type 0
-NothingRead m n a epsilon t = min m n ≡ 0 → approximation m n a epsilon t ≡ finish usedUp begin (start t)
+-- IN RESTART MODE
+pub record RestartFacts (m n w rank : ℕ) (f : Found) : Type 0 where
+  -- no row is read twice, and no column
+  pub rows-distinct : Distinct (f .rows)
+  pub columns-distinct : Distinct (f .columns)
+  -- the stop is 1, 3 or 4; 3 only at rank min(m,n), and 4 only where every row has been read
+  pub stops : (w ≡ tolerable) ⊎ ((w ≡ usedUp) ⊎ (w ≡ allTried))
+  pub full : w ≡ usedUp → rank ≡ min m n
+  pub all-read : w ≡ allTried → (i : ℕ) → i < m → unread (f .rows) i ≡ false
+
+module _ (m n : ℕ) (samples : List Float) (epsilon : Float) (t : Memory) where
+  abbrev pub RunFacts : (restart : Bool) → Type 0
+  RunFacts restart = let e = approximation m n samples epsilon restart t in Facts restart m n (e .state .rank) (e .found) t
+
+  abbrev pub OldRunFacts : Type 0
+  OldRunFacts = let e = approximation m n samples epsilon false t in OldFacts m n (e .stop) (e .state .rank) (e .found)
+
+  abbrev pub RestartRunFacts : Type 0
+  RestartRunFacts = let e = approximation m n samples epsilon true t in RestartFacts m n (e .stop) (e .state .rank) (e .found)
+
+  -- the old mode is the rule as it was before there were modes
+  abbrev pub AsBefore : Type 0
+  AsBefore = approximation m n samples epsilon false t ≡ before.approximation m n samples epsilon t
+
+  -- a block with no rows or no columns ends as it began, for the reason 3: rank 0, estimate +0.0, and nothing is read
+  abbrev pub NothingRead : (restart : Bool) → Type 0
+  NothingRead restart = min m n ≡ 0 → approximation m n samples epsilon restart t ≡ finish usedUp begin (start t)

@@ -1,4 +1,5 @@
 pub mod Answers
 pub mod Runs
+pub mod Before
 pub mod Facts
 pub mod Working

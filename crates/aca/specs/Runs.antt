@@ -1,6 +1,6 @@
--- Cross approximation, the run: steps from row 0 on, at most as many as the block has rows or columns; its report; and the call.
+-- Cross approximation, the run in either mode: steps from row 0 on, at most as many as rows can be listed; its report; and the call.
 use Prim.Native.Nat.{ℕ, zero, suc, _*_, min}
-use mathlib.Core.Bool.{Bool, _&&_}
+use mathlib.Core.Bool.{Bool, cond, _&&_}
 use mathlib.Core.Option.{Option}
 use mathlib.Core.List.{List, []}
 use lib.Dec.{eqb, leb}
@@ -32,9 +32,18 @@ unfoldable pub followed : Step → Found → (rest : Progress → Found → Fini
 followed (More s) f rest = rest s f
 followed (Stop w s) f rest = finish w s f
 
-unfoldable pub run : (steps : ℕ) → Block → (tolerance : Float) → Progress → Found → Finish
-run zero b tolerance s f = finish usedUp s f
-run (suc n) b tolerance s f = let o = step b tolerance s f in followed (o .answer) (o .found) (run n b tolerance)
+unfoldable pub run : (steps : ℕ) → (restart : Bool) → Block → (tolerance : Float) → Progress → Found → Finish
+run zero restart b tolerance s f = finish usedUp s f
+run (suc n) restart b tolerance s f =
+    let o = step restart b tolerance s f in followed (o .answer) (o .found) (run n restart b tolerance)
+
+-- how many rows are listed: as many as there can be terms, or, in restart mode, as the block has rows
+abbrev pub listed : (restart : Bool) → (m n : ℕ) → ℕ
+listed restart m n = cond restart m (min m n)
+
+-- a row is read a step, and none where there can be no term
+abbrev pub stepsOf : (places terms : ℕ) → ℕ
+stepsOf places terms = cond (eqb terms 0) 0 places
 
 abbrev pub begin : Progress
 begin = record { estimate = zero₆₄; cross = zero₆₄; rank = 0; next = 0 }
@@ -61,20 +70,21 @@ lengths a t =
     }
 
 -- every buffer has its length
-unfoldable pub fits : (m n : ℕ) → Lengths → Bool
-fits m n l =
-    eqb (l .samples) (n * m) && (eqb (l .u) (min m n * m) && (eqb (l .v) (min m n * n) && (eqb (l .«row_list») (min m n)
+unfoldable pub fits : (restart : Bool) → (m n : ℕ) → Lengths → Bool
+fits restart m n l =
+    eqb (l .samples) (n * m) && (eqb (l .u) (min m n * m) && (eqb (l .v) (min m n * n) && (eqb (l .«row_list») (listed restart m n)
     && (eqb (l .«column_list») (min m n) && (eqb (l .row) n && eqb (l .column) m)))))
 
-unfoldable pub acaNumber : (m n : ℕ) → Lengths → ℕ
-acaNumber m n l = unless (leb m mostEntries && leb n mostEntries) noCount (unless (fits m n l) wrongLength 0)
+unfoldable pub acaNumber : (restart : Bool) → (m n : ℕ) → Lengths → ℕ
+acaNumber restart m n l = unless (leb m mostEntries && leb n mostEntries) noCount (unless (fits restart m n l) wrongLength 0)
 
 -- nothing is found yet, and the row and the column at hand are as lent
 abbrev pub start : Memory → Found
 start t = found [] [] [] [] (t .row) (t .column)
 
-unfoldable pub approximation : (m n : ℕ) → (samples : List Float) → (epsilon : Float) → Memory → Finish
-approximation m n a epsilon t = run (min m n) (blockOf m n a) (times epsilon epsilon) begin (start t)
+unfoldable pub approximation : (m n : ℕ) → (samples : List Float) → (epsilon : Float) → (restart : Bool) → Memory → Finish
+approximation m n a epsilon restart t =
+    run (stepsOf (listed restart m n) (min m n)) restart (blockOf m n a) (times epsilon epsilon) begin (start t)
 
 -- what a call tells, a number and a report, and the memory after it
 pub record Call : Type 0 where
@@ -84,8 +94,8 @@ pub record Call : Type 0 where
 abbrev pub call : ℕ × Option Report → Memory → Call
 call r t = record { tells = r; leaves = t }
 
-unfoldable pub acaCall : (m n : ℕ) → (samples : List Float) → (epsilon : Float) → Memory → Call
-acaCall m n a epsilon t =
-    let e = approximation m n a epsilon t in
-    let number = acaNumber m n (lengths a t) in
+unfoldable pub acaCall : (m n : ℕ) → (samples : List Float) → (epsilon : Float) → (restart : Bool) → Memory → Call
+acaCall m n a epsilon restart t =
+    let e = approximation m n a epsilon restart t in
+    let number = acaNumber restart m n (lengths a t) in
     call (answer number (report e)) (left number (laid (e .found) t) t)

@@ -5,6 +5,7 @@ use mathlib.Core.List.{List}
 use Prim.Native.Nat.{ℕ}
 use lib.Ieee.{Float}
 use lib.ListN.{length}
+use Rattle.common.specs.Tests.{lowest}
 use Rattle.common.proofs.Determined.{coincide}
 use Rattle.aca_lines.specs.Largest.{counts, pivot}
 use Rattle.aca_lines.specs.Flags.{isOn, allOn, cleared}
@@ -26,6 +27,9 @@ module _ (flags : List ℕ) (k : ℕ) where
 
   clear-determined : (exit exit' : List ℕ) → exit ≡ cleared flags k → exit' ≡ cleared flags k → exit ≡ exit'
   clear-determined exit exit' = coincide exit exit' (cleared flags k)
+
+lowest-on-determined : (flags : List ℕ) (most r r' : ℕ) → r ≡ lowest most (isOn flags) → r' ≡ lowest most (isOn flags) → r ≡ r'
+lowest-on-determined flags most r r' = coincide r r' (lowest most (isOn flags))
 
 pick-on-determined : (entries : List Float) (flags : List ℕ) (r r' : Pivot) → r ≡ pivot entries (isOn flags) →
     r' ≡ pivot entries (isOn flags) → r ≡ r'

@@ -130,7 +130,7 @@ module _ (l : List Float) (on : ℕ → Bool) where
       let above : lt zero₆₄ (sizeAt l j) ≡ true = rw (h .worth) at (h .above-zero) in
       absurd (true≢false (sym above ∙ z j (record { inside = h .inside; is-on = h .counted })))
 
-  argmax-facts : ArgmaxFacts l on
+  pub argmax-facts : ArgmaxFacts l on
   unfolding pivot
   argmax-facts =
       record {

@@ -12,6 +12,7 @@ pub use flags::Flags;
 pub use flags::all_on;
 pub use flags::clear;
 pub use flags::is_on;
+pub use flags::lowest_on;
 pub use flags::pick_on;
 pub use search::pick;
 pub use terms::cross;

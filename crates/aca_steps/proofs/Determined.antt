@@ -10,10 +10,10 @@ use Rattle.aca_steps.specs.Memories.{Memory}
 use Rattle.aca_steps.specs.Standing.{Stepped}
 use Rattle.aca_steps.specs.declared.Step.{Step}
 
-advance-determined : (o : Outcome) (t after after' : Memory) (r r' : Step) (rows rows' columns columns' : List ℕ) →
-    Stepped o t r after rows columns → Stepped o t r' after' rows' columns' →
+advance-determined : (low : ℕ) (o : Outcome) (t after after' : Memory) (r r' : Step) (rows rows' columns columns' : List ℕ) →
+    Stepped low o t r after rows columns → Stepped low o t r' after' rows' columns' →
     (r ≡ r') × (after ≡ after') × ((k : ℕ) → k < mostEntries → (isOn rows k ≡ isOn rows' k) × (isOn columns k ≡ isOn columns' k))
-advance-determined o t after after' r r' rows rows' columns columns' h h' = (
+advance-determined low o t after after' r r' rows rows' columns columns' h h' = (
   coincide r r' _ (h .answer-is) (h' .answer-is),
   coincide after after' _ (h .memory-is) (h' .memory-is),
   λ k l. (coincide _ _ _ (h .rows-marked k l) (h' .rows-marked k l), coincide _ _ _ (h .columns-marked k l) (h' .columns-marked k l)),

@@ -1,6 +1,7 @@
 pub mod Fronts
 pub mod Terms
 pub mod Marked
+pub mod Chosen
 pub mod Ways
 pub mod OneStep
 pub mod Determined

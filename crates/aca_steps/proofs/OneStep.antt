@@ -1,11 +1,12 @@
--- A step in memory is a step of the rule: where the row has no pivot, and where it has one. Assumes nothing.
-use mathlib.Core.Path.{_≡_, refl, sym, ap, _∙_}
-use mathlib.Core.Bool.{true, false}
+-- A step in memory is a step of the rule, in either mode: where the row has no usable pivot, and where it has one. Assumes nothing.
+use mathlib.Core.Path.{_≡_, refl, sym, ap, subst, _∙_}
+use mathlib.Core.Bool.{Bool, true, false}
 use mathlib.Core.List.{List, [], _∷_, _++_}
 use Prim.Native.Nat.{ℕ, _+_, _*_, _<_, _≤_}
 use native.Mathlib.Omega.{arith}
-use lib.Ieee.{Float, nan, lt}
+use lib.Ieee.{Float, nan}
 use lib.ListN.{length, set, take}
+use Rattle.common.specs.Refusals.{mostEntries}
 use Rattle.common.proofs.Fill.{length-tabulate}
 use Rattle.common.proofs.Matrices.{column-fits}
 use Rattle.aca_lines.specs.Flags.{isOn, cleared}
@@ -14,19 +15,27 @@ use Rattle.aca_lines.specs.Lines.{residual, rowLess, columnLess, multiplied, no
 use Rattle.aca_lines.specs.declared.Pivot.{Pivot}
 use Rattle.aca_lines.proofs.Largest.{argmax-in}
 use Rattle.common.specs.Matrices.{matrix}
-use Rattle.aca_steps.specs.Crosses.{Block, Found, found, unread, rowRead, columnRead, grown, weighed, spent, tiny₆₄, outcome, stored, accepted, tried, step}
+use Rattle.aca_steps.specs.Crosses.{Block, most, Found, found, unread, rowRead, columnRead, grown, weighed, stored, without, usable}
+use Rattle.aca_steps.specs.Crosses.{judged, outcome, accepted, tried, step}
 use Rattle.aca_steps.specs.Memories.{Memory, memory, laid, blockOf}
-use Rattle.aca_steps.specs.Standing.{standing, Marks, Ready, made, Stepped}
-use Rattle.aca_steps.specs.Working.{RowFits, Lent, TermFits, TermStored}
+use Rattle.aca_steps.specs.Standing.{standing, Marks, RowsKnown, Ready, made, Stepped}
+use Rattle.aca_steps.specs.Working.{RowFits, usableHere, Lent, TermFits, TermStored}
 use Rattle.aca_steps.specs.declared.Progress.{Progress}
+use Rattle.aca_steps.specs.declared.Reading.{Reading}
 use Rattle.aca_steps.specs.declared.Step.{Step}
-use Rattle.aca_steps.specs.declared.Step.the-variants.{Stop}
 use Rattle.aca_steps.proofs.Fronts.{upon-same, upon-stretch, upon-set}
-use Rattle.aca_steps.proofs.Marked.{marks-more, pivot-unread, argmax-unread}
+use Rattle.aca_steps.proofs.Chosen.{usable-here}
+use Rattle.aca_steps.proofs.Marked.{marks-more, known-more, pivot-unread, argmax-unread, without-cong, judged-cong}
 use Rattle.aca_steps.proofs.Terms.{residual-front, cross-front}
 
-module _ (samples : List Float) (tolerance : Float) (s : Progress) (read : ℕ) (t : Memory) (rows columns : List ℕ)
-    (ready : Ready (length samples) t s read rows columns) where
+module _ (samples : List Float) (tolerance : Float) (g : Reading) (s : Progress) (t : Memory) (rows columns : List ℕ)
+    (ready : Ready (length samples) t g s rows columns) where
+  abbrev read : ℕ
+  read = g .read
+
+  abbrev restart : Bool
+  restart = g .restart
+
   abbrev k : ℕ
   k = s .rank
 
@@ -52,7 +61,7 @@ module _ (samples : List Float) (tolerance : Float) (s : Progress) (read : ℕ) 
         inside = ready .row-in;
         tall = ready .sizes .tall;
         wide = ready .sizes .wide;
-        place = ready .reading;
+        place = ready .place;
         block = ready .sizes .block;
         u-long = omega (arith, u-room);
         v-long = omega (arith, v-room);
@@ -69,6 +78,9 @@ module _ (samples : List Float) (tolerance : Float) (s : Progress) (read : ℕ) 
     pivot-in : p .place < length w
     unfolding pivot
     pivot-in = rw pivot-is (argmax-in w (isOn columns) (rw row-long (ready .column-in)))
+
+    pub place-in : p .place < mostEntries
+    place-in = omega (arith, pivot-in, row-long, ready .sizes .wide)
 
     -- what is lent for the term
     abbrev room : Lent
@@ -109,26 +121,43 @@ module _ (samples : List Float) (tolerance : Float) (s : Progress) (read : ℕ) 
         ap (λ (l : List Float). found us vs is js l (t .column))
         (residual-front n m k (s .next) (matrix m samples (s .next)) (t .vs) (t .us) (ready .row-in) ∙ sym row-is)
 
-    step-is : made samples tolerance s read t ≡ tried block tolerance s after-row p
+    -- its pivot among the unread columns is the flags' own
+    same-pivot : pivot w (unread js) ≡ p
+    same-pivot = sym (pivot-unread w columns js (rw row-long (ready .sizes .wide)) (ready .columns-marked)) ∙ sym pivot-is
+
+    step-is : made samples tolerance g s t ≡ tried restart block tolerance s after-row p
     unfolding step
     step-is =
-        ap (λ (f : Found). tried block tolerance s f (pivot (f .row) (unread (f .columns)))) row-read
-        ∙ ap (tried block tolerance s after-row)
-        (sym (pivot-unread w columns js (rw row-long (ready .sizes .wide)) (ready .columns-marked)) ∙ sym pivot-is)
+        ap (λ (f : Found). tried restart block tolerance s f (pivot (f .row) (unread (f .columns)))) row-read
+        ∙ ap (tried restart block tolerance s after-row) same-pivot
 
-    -- the flags say so too
+    -- and what is asked of it says whether it is usable
+    asked : usable restart w (unread js) p ≡ usableHere restart (isOn columns) p
+    asked =
+        let on : isOn columns (p .place) ≡ unread js (p .place) = ready .columns-marked (p .place) place-in in
+        subst (λ (q : Pivot). usable restart w (unread js) q ≡ usableHere restart (unread js) q) same-pivot
+        (usable-here w (unread js) restart (rw row-long (ready .column-in)))
+        ∙ rw on
+
+    -- the flags of the rows say so too
     rows-more : Marks (cleared rows (s .next)) is
     rows-more = marks-more rows (take read (t .«row-list»)) (s .next) (ready .rows-marked)
 
-    -- it has no pivot
-    pub stopped : lt (p .size) tiny₆₄ ≡ true →
-        Stepped (made samples tolerance s read t) t (Stop spent s) (memory (t .us) (t .vs) list' (t .«column-list») w (t .column))
-        rows' columns
+    marked : (k : ℕ) → k < m → isOn rows' k ≡ unread is k
+    marked k b = rw rows-are (rows-more k (omega (arith, ready .sizes .tall)))
+
+    pub known : RowsKnown (g .low) m rows'
+    known = rw rows-are (known-more (g .low) m rows (s .next) (ready .known))
+
+    -- it has no usable pivot
+    pub stopped : (r : Step) → usableHere restart (isOn columns) p ≡ false → r ≡ without restart m (isOn rows') s →
+        Stepped (g .low) (made samples tolerance g s t) t r (memory (t .us) (t .vs) list' (t .«column-list») w (t .column)) rows' columns
     unfolding tried laid
-    stopped small =
-        rw (step-is, small)
+    stopped r bare answer =
+        let unusable : usable restart w (unread js) p ≡ false = asked ∙ bare in
+        rw (step-is, unusable)
         record {
-          answer-is = refl;
+          answer-is = answer ∙ without-cong m (isOn rows') (unread is) marked s restart;
           memory-is =
               let u-long : k * m ≤ length (t .us) = omega (arith, u-room) in
               let v-long : k * n ≤ length (t .vs) = omega (arith, v-room) in
@@ -137,15 +166,16 @@ module _ (samples : List Float) (tolerance : Float) (s : Progress) (read : ℕ) 
                 ← upon-same (k * m) (t .us) u-long,
                 ← upon-same (k * n) (t .vs) v-long,
                 ← upon-same k (t .«column-list») some,
-                ← upon-set read (s .next) (t .«row-list») (ready .reading),
+                ← upon-set read (s .next) (t .«row-list») (ready .place),
                 list-is,
               );
+          known = known;
           rows-marked = rw rows-are rows-more;
           columns-marked = ready .columns-marked;
         }
 
     -- it has one: the column through it has been read, and the two are stored
-    module _ (r : Step) (l : Lent) (term-is : TermStored samples tolerance s (p .place) rows' room r l) where
+    module _ (r : Step) (l : Lent) (term-is : TermStored samples tolerance restart s (p .place) rows' room r l) where
       abbrev j : ℕ
       j = p .place
 
@@ -184,14 +214,25 @@ module _ (samples : List Float) (tolerance : Float) (s : Progress) (read : ℕ) 
           argmax-unread x (cleared rows (s .next)) is (rw column-long (ready .sizes .tall)) rows-more in
           rw (shared, rows-are, next)
 
-      accepted-is : accepted tolerance s after-column ≡ outcome r (stored after-column)
-      unfolding accepted
-      accepted-is = rw (weighed-is, ← term-is .answer-is)
+      -- the term is judged by the flags as it is by the rule
+      judged-is : judged restart m (most block) tolerance (norm x v) (unread is) (weighed s after-column) ≡ r
+      unfolding grown
+      judged-is =
+          let next : argmax x (isOn rows') < m = rw column-long at (argmax-in x (isOn rows') (rw column-long (ready .known .some))) in
+          rw (weighed-is, ← ready .sizes .terms)
+          (sym
+          (judged-cong m (isOn rows') (unread is) marked (grown s (norm x v) (cross k (t .us) (t .vs) x v) (argmax x (isOn rows'))) next
+          restart (length (t .«column-list»)) tolerance (norm x v)) ∙ sym (rw column-long at (term-is .answer-is)))
 
-      pub went-on : lt (p .size) tiny₆₄ ≡ false →
-          Stepped (made samples tolerance s read t) t r (memory (l .us) (l .vs) list' (l .list) v x) rows' (l .flags)
+      accepted-is : accepted restart block tolerance s after-column ≡ outcome r (stored after-column)
+      unfolding accepted
+      accepted-is = ap (λ (a : Step). outcome a (stored after-column)) judged-is
+
+      pub went-on : usableHere restart (isOn columns) p ≡ true →
+          Stepped (g .low) (made samples tolerance g s t) t r (memory (l .us) (l .vs) list' (l .list) v x) rows' (l .flags)
       unfolding tried laid stored
-      went-on large =
+      went-on has =
+          let large : usable restart w (unread js) p ≡ true = asked ∙ has in
           let us-are : l .us ≡ _ = rw column-long at (term-is .us-are) in
           let vs-are : l .vs ≡ _ = rw v-long at (term-is .vs-are) in
           rw (step-is, large, column-read, accepted-is)
@@ -199,7 +240,7 @@ module _ (samples : List Float) (tolerance : Float) (s : Progress) (read : ℕ) 
             answer-is = refl;
             memory-is =
                 rw (
-                  ← upon-set read (s .next) (t .«row-list») (ready .reading),
+                  ← upon-set read (s .next) (t .«row-list») (ready .place),
                   ← upon-set k j (t .«column-list») (ready .term),
                   ← upon-stretch (k * m) m x (t .us) nan column-long u-room,
                   ← upon-stretch (k * n) n v (t .vs) nan v-long v-room,
@@ -208,6 +249,7 @@ module _ (samples : List Float) (tolerance : Float) (s : Progress) (read : ℕ) 
                   list-is,
                   term-is .taken .list-is,
                 );
+            known = known;
             rows-marked = rw rows-are rows-more;
             columns-marked = rw (term-is .taken .flags-are) (marks-more columns js j (ready .columns-marked));
           }

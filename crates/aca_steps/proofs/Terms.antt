@@ -1,6 +1,7 @@
 -- The first terms of a run: a line less k terms, and the cross term with them, look no further than k columns
 -- of U and V. Assumes nothing.
 use mathlib.Core.Path.{_≡_, ap}
+use mathlib.Core.Bool.{Bool}
 use mathlib.Core.List.{List}
 use Prim.Native.Nat.{ℕ, _+_, _*_, _<_}
 use lib.Arith.{digits-lt}
@@ -37,7 +38,7 @@ unfolding cross
 cross-front k us vs u v = sums-cong k _ _ (λ l h. rw (inner-front (length u) k us u l h, inner-front (length v) k vs v l h))
 
 -- a term is judged by its norm, its cross term and the row to read next, whatever they are called
-pub judged-so : (tolerance : Float) (s : Progress) {s' : Progress} {r : Step} {g g' x x' : Float} {i i' : ℕ} →
-    r ≡ judged tolerance g s' → s' ≡ grown s g x i →
-    g ≡ g' → x ≡ x' → i ≡ i' → r ≡ judged tolerance g' (grown s g' x' i')
-judged-so tolerance s a b c d e = cc
+pub judged-so : (restart : Bool) (m k : ℕ) (tolerance : Float) (on : ℕ → Bool) (s : Progress) {s' : Progress} {r : Step}
+    {g g' x x' : Float} {i i' : ℕ} → r ≡ judged restart m k tolerance g on s' → s' ≡ grown s g x i →
+    g ≡ g' → x ≡ x' → i ≡ i' → r ≡ judged restart m k tolerance g' on (grown s g' x' i')
+judged-so restart m k tolerance on s a b c d e = cc

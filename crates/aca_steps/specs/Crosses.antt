@@ -1,11 +1,14 @@
--- Cross approximation, one step: a row and a column of a block, less what the earlier terms say of them, give the next term.
-use Prim.Native.Nat.{ℕ, _+_}
-use mathlib.Core.Bool.{Bool, true, false, cond}
+-- Cross approximation, one step, in the old mode and in restart mode: a row and a column of a block, less what the earlier terms say of
+-- them, give the next term. The modes differ in two places: what a row without a usable pivot leads to (`usable`, `without`), and which
+-- row comes next (`onward`).
+use Prim.Native.Nat.{ℕ, _+_, min}
+use mathlib.Core.Bool.{Bool, true, false, not, cond, _&&_}
 use mathlib.Core.List.{List, [], _∷_, _++_}
 use lib.Dec.{eqb}
 use lib.Ieee.{Float, nan, lt, le, ofBits, binary64}
-use lib.ListN.{getD}
-use Rattle.common.specs.Floats.{plus, times, over, one₆₄, two₆₄}
+use lib.ListN.{length, getD}
+use Rattle.common.specs.Floats.{plus, times, over, one₆₄, two₆₄, size}
+use Rattle.common.specs.Tests.{any, lowest}
 use Rattle.aca_lines.specs.Largest.{argmax, pivot}
 use Rattle.common.specs.Matrices.{matrix}
 use Rattle.aca_lines.specs.Lines.{residual, multiplied, norm, cross}
@@ -19,6 +22,10 @@ pub record Block : Type 0 where
   pub rows : ℕ
   pub columns : ℕ
   pub at : (i j : ℕ) → Float
+
+-- the most terms that it can give
+abbrev pub most : Block → ℕ
+most b = min (b .rows) (b .columns)
 
 -- What a run has found so far: u and v of each term, one after the other; the rows and the columns read, in order; and the row
 -- and the column that it last worked on.
@@ -79,9 +86,9 @@ weighed s f =
 unfoldable pub stored : Found → Found
 stored f = found (f .us ++ f .column) (f .vs ++ f .row) (f .rows) (f .columns) (f .row) (f .column)
 
--- THE STEP
+-- WHY A RUN STOPS: the tolerance is reached; the row that was read has no usable pivot; there are as many terms as the block can
+-- give; or every row has been tried
 
--- why a run stops
 abbrev pub tolerable : ℕ
 tolerable = 1
 
@@ -91,13 +98,45 @@ spent = 2
 abbrev pub usedUp : ℕ
 usedUp = 3
 
+abbrev pub allTried : ℕ
+allTried = 4
+
+-- THE ROW THAT IS READ NEXT; `on` holds at the unread rows
+
+-- the same state, with another row to read next
+abbrev pub moved : Progress → (next : ℕ) → Progress
+moved s i = record { estimate = s .estimate; cross = s .cross; rank = s .rank; next = i }
+
+-- at the lowest of m rows that is unread, if there is one
+unfoldable pub elsewhere : (m : ℕ) → (on : ℕ → Bool) → Progress → Step
+elsewhere m on s = cond (eqb (lowest m on) m) (Stop allTried s) (More (moved s (lowest m on)))
+
+-- after a term: at the row that the state names, or, in restart mode, elsewhere if that was read already
+unfoldable pub onward : (restart : Bool) → (m : ℕ) → (on : ℕ → Bool) → Progress → Step
+onward false m on s = More s
+onward true m on s = cond (on (s .next)) (More s) (elsewhere m on s)
+
+-- after a row without a usable pivot: not at all, or, in restart mode, elsewhere
+unfoldable pub without : (restart : Bool) → (m : ℕ) → (on : ℕ → Bool) → Progress → Step
+without false m on s = Stop spent s
+without true m on s = elsewhere m on s
+
+-- THE STEP
+
 -- 2 ^ -52
 abbrev pub tiny₆₄ : Float
 tiny₆₄ = ofBits binary64 0x3cb0000000000000
 
--- a term whose norm is small against the estimate is the last
-unfoldable pub judged : (tolerance norm : Float) → Progress → Step
-judged tolerance g s = cond (le g (times tolerance (s .estimate))) (Stop tolerable s) (More s)
+-- A row has a usable pivot where the size at its argmax is not below 2 ^ -52, so that a NaN is one; or, in restart mode, where some
+-- unread column's is at least that, so that a NaN is none. Here `on` holds at the unread columns.
+unfoldable pub usable : (restart : Bool) → (row : List Float) → (on : ℕ → Bool) → Pivot → Bool
+usable false w on p = not (lt (p .size) tiny₆₄)
+usable true w on p = any (length w) (λ c. on c && le tiny₆₄ (size (getD w c nan)))
+
+-- a term is the last where its norm is small against the estimate, and then where there are as many as k
+unfoldable pub judged : (restart : Bool) → (m k : ℕ) → (tolerance norm : Float) → (on : ℕ → Bool) → Progress → Step
+judged restart m k tolerance g on s =
+    cond (le g (times tolerance (s .estimate))) (Stop tolerable s) (cond (eqb (s .rank) k) (Stop usedUp s) (onward restart m on s))
 
 -- what a step answers, and what has then been found
 pub record Outcome : Type 0 where
@@ -107,13 +146,18 @@ pub record Outcome : Type 0 where
 abbrev pub outcome : Step → Found → Outcome
 outcome r f = record { answer = r; found = f }
 
-unfoldable pub accepted : (tolerance : Float) → Progress → Found → Outcome
-accepted tolerance s f = outcome (judged tolerance (norm (f .column) (f .row)) (weighed s f)) (stored f)
+unfoldable pub accepted : (restart : Bool) → Block → (tolerance : Float) → Progress → Found → Outcome
+accepted restart b tolerance s f =
+    let weight = norm (f .column) (f .row) in
+    outcome (judged restart (b .rows) (most b) tolerance weight (unread (f .rows)) (weighed s f)) (stored f)
 
--- a row whose pivot's size is below 2 ^ -52 gives no term; the size of a NaN is below nothing
-unfoldable pub tried : Block → (tolerance : Float) → Progress → Found → Pivot → Outcome
-tried b tolerance s f p =
-    cond (lt (p .size) tiny₆₄) (outcome (Stop spent s) f) (accepted tolerance s (columnRead b s f (p .place)))
+-- a row without a usable pivot gives no term: nothing is stored, and the state stays but for the row to read next
+unfoldable pub tried : (restart : Bool) → Block → (tolerance : Float) → Progress → Found → Pivot → Outcome
+tried restart b tolerance s f p =
+    cond (usable restart (f .row) (unread (f .columns)) p)
+    (accepted restart b tolerance s (columnRead b s f (p .place)))
+    (outcome (without restart (b .rows) (unread (f .rows)) s) f)
 
-unfoldable pub step : Block → (tolerance : Float) → Progress → Found → Outcome
-step b tolerance s f = let r = rowRead b s f in tried b tolerance s r (pivot (r .row) (unread (r .columns)))
+unfoldable pub step : (restart : Bool) → Block → (tolerance : Float) → Progress → Found → Outcome
+step restart b tolerance s f =
+    let r = rowRead b s f in tried restart b tolerance s r (pivot (r .row) (unread (r .columns)))

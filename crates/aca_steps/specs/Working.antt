@@ -1,8 +1,9 @@
 -- What the parts of a step ask of lent memory, and what they leave there.
 use Prim.Native.Nat.{ℕ, _+_, _*_, _<_, _≤_}
 use mathlib.Core.Path.{_≡_}
+use mathlib.Core.Bool.{Bool, not, cond, _&&_}
 use mathlib.Core.List.{List}
-use lib.Ieee.{Float, nan}
+use lib.Ieee.{Float, nan, lt, le}
 use lib.ListN.{length, getD, set}
 use denote.Ref.{RefT, now}
 use Rattle.common.specs.Floats.{over, one₆₄}
@@ -10,7 +11,8 @@ use Rattle.common.specs.Refusals.{mostEntries}
 use Rattle.aca_lines.specs.Flags.{isOn, cleared}
 use Rattle.aca_lines.specs.Largest.{argmax}
 use Rattle.aca_lines.specs.Lines.{columnLess, multiplied, asColumn, norm, cross}
-use Rattle.aca_steps.specs.Crosses.{grown, judged}
+use Rattle.aca_lines.specs.declared.Pivot.{Pivot}
+use Rattle.aca_steps.specs.Crosses.{tiny₆₄, grown, judged}
 use Rattle.aca_steps.specs.declared.Progress.{Progress}
 use Rattle.aca_steps.specs.declared.Step.{Step}
 
@@ -23,6 +25,10 @@ pub record RowFits (samples rows i k read : ℕ) (us vs row : List Float) (list 
   pub block : length row * rows ≤ samples
   pub u-long : k * rows ≤ length us
   pub v-long : k * length row ≤ length vs
+
+-- the one test that is made of a pivot; `on` holds at the unread columns
+abbrev pub usableHere : (restart : Bool) → (on : ℕ → Bool) → Pivot → Bool
+usableHere restart on p = cond restart (on (p .place) && le tiny₆₄ (p .size)) (not (lt (p .size) tiny₆₄))
 
 -- THE TERM: what is lent for a column and the term that it gives
 pub record Lent : Type 0 where
@@ -54,15 +60,16 @@ pub record ColumnTaken (samples : List Float) (k j : ℕ) (t : Lent) (row column
   pub flags-are : flags ≡ cleared (t .flags) j
   pub list-is : list ≡ set (t .list) k j
 
--- what is answered after a term u, v: `rows` are the flags of the rows
-abbrev pub judgedHere : (tolerance : Float) → Progress → (us vs u v : List Float) → (rows : List ℕ) → Step
-judgedHere tolerance s us vs u v rows =
-    judged tolerance (norm u v) (grown s (norm u v) (cross (s .rank) us vs u v) (argmax u (isOn rows)))
+-- what is answered after a term u, v, of k at most: `rows` are the flags of the rows
+abbrev pub judgedHere : (restart : Bool) → (k : ℕ) → (tolerance : Float) → Progress → (us vs u v : List Float) → (rows : List ℕ) → Step
+judgedHere restart k tolerance s us vs u v rows =
+    judged restart (length u) k tolerance (norm u v) (isOn rows)
+    (grown s (norm u v) (cross (s .rank) us vs u v) (argmax u (isOn rows)))
 
 -- and the two are one more term
-pub record TermStored (samples : List Float) (tolerance : Float) (s : Progress) (j : ℕ) (rows : List ℕ) (t : Lent) (answer : Step)
-    (after : Lent) : Type 0 where
+pub record TermStored (samples : List Float) (tolerance : Float) (restart : Bool) (s : Progress) (j : ℕ) (rows : List ℕ) (t : Lent)
+    (answer : Step) (after : Lent) : Type 0 where
   pub taken : ColumnTaken samples (s .rank) j t (after .row) (after .column) (after .flags) (after .list)
-  pub answer-is : answer ≡ judgedHere tolerance s (t .us) (t .vs) (after .column) (after .row) rows
+  pub answer-is : answer ≡ judgedHere restart (length (t .list)) tolerance s (t .us) (t .vs) (after .column) (after .row) rows
   pub us-are : after .us ≡ asColumn (s .rank) (after .column) (t .us)
   pub vs-are : after .vs ≡ asColumn (s .rank) (after .row) (t .vs)

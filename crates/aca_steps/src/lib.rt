@@ -3,13 +3,15 @@ mod onward;
 
 pub use onward::advance;
 
-// Why a run stops: the tolerance is reached, the row that was read has no pivot, or there are as many terms as the block has rows
-// or columns. The numbers are the report's.
+// Why a run stops: the tolerance is reached, the row that was read has no usable pivot, there are as many terms as the block has rows
+// or columns, or every row has been tried. The numbers are the report's.
 pub const TOLERABLE: u8 = 1;
 
 pub const SPENT: u8 = 2;
 
 pub const USED_UP: u8 = 3;
+
+pub const ALL_TRIED: u8 = 4;
 
 // What travels from step to step: the estimate of the squared norm, the last cross term, the rank, and the row to read next.
 pub struct Progress {
@@ -17,6 +19,13 @@ pub struct Progress {
     pub cross: f64,
     pub rank: usize,
     pub next: usize,
+}
+
+// How rows are read: whether the run restarts, how many were read, and a row below which all were.
+pub struct Reading {
+    pub restart: bool,
+    pub read: usize,
+    pub low: usize,
 }
 
 // A step goes on, or it stops for a reason.

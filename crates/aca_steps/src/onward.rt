@@ -1,24 +1,28 @@
 // One step of cross approximation: a row is read, and where it has a pivot, the column through it and one more term.
 ghost use mathlib.Core.Path.{_≡_};
 ghost use Prim.Native.Nat.{_<_};
-ghost use lib.Ieee.{lt};
 ghost use lib.ListN.{length, set};
 ghost use Rattle.common.specs.Refusals.{mostEntries};
 ghost use Rattle.aca_lines.specs.Flags.{isOn, cleared};
 ghost use Rattle.aca_lines.specs.Largest.{argmax, pivot};
 ghost use Rattle.aca_lines.specs.Lines.{rowLess};
-ghost use Rattle.aca_steps.specs.Crosses.{grown, tiny₆₄, judged};
+ghost use Rattle.aca_steps.specs.Crosses.{grown, elsewhere as elsewhereOf, onward as onwardOf, without as withoutOf, judged};
 ghost use Rattle.aca_steps.specs.Memories.{behind};
-ghost use Rattle.aca_steps.specs.Standing.{Ready, made, Stepped};
-ghost use Rattle.aca_steps.specs.Working.{RowFits, lent, TermFits, ColumnTaken, TermStored};
+ghost use Rattle.aca_steps.specs.Standing.{RowsKnown, Ready, made, Stepped};
+ghost use Rattle.aca_steps.specs.Working.{RowFits, usableHere, lent, TermFits, ColumnTaken, TermStored};
+use crate::ALL_TRIED;
 use crate::Progress;
+use crate::Reading;
 use crate::SPENT;
 use crate::Step;
 use crate::TOLERABLE;
+use crate::USED_UP;
 use aca_lines::Flags;
 use aca_lines::Pivot;
 use aca_lines::clear;
 use aca_lines::cross;
+use aca_lines::is_on;
+use aca_lines::lowest_on;
 use aca_lines::multiply;
 use aca_lines::norm;
 use aca_lines::pick_on;
@@ -29,11 +33,19 @@ use aca_lines::store;
 // The size below which a pivot is none: 2^-52.
 const TINY: f64 = 2.220446049250313e-16;
 
-// A pivot below 2^-52 is none. The state is at hand and is not asked: the test is absolute, however large the block is.
-fn is_none(pivot: Pivot, s: Progress) -> bool
-    ensures { λ r. ⌜ r ≡ lt (pivot .size) tiny₆₄ ⌝ }
+// A pivot below 2^-52 is none; in restart mode one that is not at least that, and one in a column that was used. The state is at hand
+// and is not asked: the test is absolute, however large the block is.
+fn is_usable(restart: bool, pivot: Pivot, s: Progress, column_flags: &Flags) -> bool
+    requires { ⌜ pivot .place < mostEntries ⌝ }
+    ensures { λ r. ⌜ r ≡ usableHere «restart» (isOn (now («column_flags» .entry))) pivot ⌝ }
 {
-    pivot.size < TINY
+    if restart {
+        if is_on(column_flags, pivot.place) {
+            return TINY <= pivot.size;
+        }
+        return false;
+    }
+    !(pivot.size < TINY)
 }
 
 // Row or column i is used, and is number k of those read.
@@ -110,19 +122,75 @@ fn grow(s: Progress, norm: f64, cross: f64, next: usize) -> Progress
     }
 }
 
-fn judge(tolerance: f64, norm: f64, s: Progress) -> Step
-    ensures { λ r. ⌜ r ≡ judged tolerance norm s ⌝ }
+// The run goes on at the lowest unread row, if there is one.
+fn elsewhere(low: usize, rows: usize, row_flags: &Flags, s: Progress) -> Step
+    requires { ⌜ RowsKnown low rows (now «row_flags») ⌝ }
+    ensures { λ r. ⌜ r ≡ elsewhereOf rows (isOn (now («row_flags» .entry))) s ⌝ }
+{
+    let next = lowest_on(row_flags, low, rows);
+    if next == rows {
+        return Step::Stop(ALL_TRIED, s);
+    }
+    Step::More(Progress {
+        estimate: s.estimate,
+        cross: s.cross,
+        rank: s.rank,
+        next,
+    })
+}
+
+// After a row without a usable pivot.
+fn without(reading: Reading, rows: usize, row_flags: &Flags, s: Progress) -> Step
+    requires { ⌜ RowsKnown (reading .low) rows (now «row_flags») ⌝ }
+    ensures { λ r. ⌜ r ≡ withoutOf (reading .restart) rows (isOn (now («row_flags» .entry))) s ⌝ }
+{
+    if reading.restart {
+        return elsewhere(reading.low, rows, row_flags, s);
+    }
+    Step::Stop(SPENT, s)
+}
+
+// After a term that is not the last.
+fn onward(reading: Reading, rows: usize, row_flags: &Flags, s: Progress) -> Step
+    requires { ⌜ RowsKnown (reading .low) rows (now «row_flags») × (s .next < rows) ⌝ }
+    ensures { λ r. ⌜ r ≡ onwardOf (reading .restart) rows (isOn (now («row_flags» .entry))) s ⌝ }
+{
+    if reading.restart {
+        if is_on(row_flags, s.next) {
+            return Step::More(s);
+        }
+        return elsewhere(reading.low, rows, row_flags, s);
+    }
+    Step::More(s)
+}
+
+// After a term: the tolerance is asked first, then whether there can be more, and then which row comes next.
+fn judge(
+    reading: Reading,
+    rows: usize,
+    most: usize,
+    tolerance: f64,
+    norm: f64,
+    row_flags: &Flags,
+    s: Progress,
+) -> Step
+    requires { ⌜ RowsKnown (reading .low) rows (now «row_flags») × (s .next < rows) ⌝ }
+    ensures { λ r. ⌜ r ≡ judged (reading .restart) rows most tolerance norm (isOn (now («row_flags» .entry))) s ⌝ }
 {
     if norm <= tolerance * s.estimate {
         return Step::Stop(TOLERABLE, s);
     }
-    Step::More(s)
+    if s.rank == most {
+        return Step::Stop(USED_UP, s);
+    }
+    onward(reading, rows, row_flags, s)
 }
 
 // The row has a pivot, in column j: the column is read, and the two are one more term.
 fn accept(
     samples: &[f64],
     tolerance: f64,
+    reading: Reading,
     s: Progress,
     j: usize,
     u: &mut [f64],
@@ -133,8 +201,9 @@ fn accept(
     row: &mut [f64],
     column: &mut [f64],
 ) -> Step
-    requires { ⌜ TermFits (length (now samples)) (s .rank) j (lent u v «column_flags» «column_list» row column) ⌝ }
-    ensures { λ r. ⌜ TermStored (now (samples .entry)) tolerance s j (now («row_flags» .entry))
+    requires { ⌜ TermFits (length (now samples)) (s .rank) j (lent u v «column_flags» «column_list» row column) ×
+        RowsKnown (reading .low) (length (now column)) (now «row_flags») ⌝ }
+    ensures { λ r. ⌜ TermStored (now (samples .entry)) tolerance (reading .restart) s j (now («row_flags» .entry))
         (lent (u .entry) (v .entry) («column_flags» .entry) («column_list» .entry) (row .entry) (column .entry))
         r (lent (u .exit) (v .exit) («column_flags» .exit) («column_list» .exit) (row .exit) (column .exit)) ⌝ }
 {
@@ -154,15 +223,23 @@ fn accept(
     let weight = norm(column, row);
     let shared = cross(k, u, v, column, row);
     store(k, u, v, column, row);
-    judge(tolerance, weight, grow(s, weight, shared, next))
+    judge(
+        reading,
+        column.len(),
+        column_list.len(),
+        tolerance,
+        weight,
+        row_flags,
+        grow(s, weight, shared, next),
+    )
 }
 
-// The step, after so many rows were read: it answers the state to go on with, or why the run stops.
+// The step: it answers the state to go on with, or why the run stops.
 pub fn advance(
     samples: &[f64],
     tolerance: f64,
+    reading: Reading,
     s: Progress,
-    read: usize,
     u: &mut [f64],
     v: &mut [f64],
     row_flags: &mut Flags,
@@ -172,9 +249,9 @@ pub fn advance(
     row: &mut [f64],
     column: &mut [f64],
 ) -> Step
-    requires { ⌜ Ready (length (now samples)) (behind u v «row_list» «column_list» row column) s read
+    requires { ⌜ Ready (length (now samples)) (behind u v «row_list» «column_list» row column) reading s
         (now «row_flags») (now «column_flags») ⌝ }
-    ensures { λ r. ⌜ Stepped (made (now (samples .entry)) tolerance s read
+    ensures { λ r. ⌜ Stepped (reading .low) (made (now (samples .entry)) tolerance reading s
         (behind (u .entry) (v .entry) («row_list» .entry) («column_list» .entry) (row .entry) (column .entry)))
         (behind (u .entry) (v .entry) («row_list» .entry) («column_list» .entry) (row .entry) (column .entry))
         r (behind (u .exit) (v .exit) («row_list» .exit) («column_list» .exit) (row .exit) (column .exit))
@@ -188,7 +265,7 @@ pub fn advance(
         rows,
         i,
         k,
-        read,
+        reading.read,
         u,
         v,
         row_flags,
@@ -196,13 +273,14 @@ pub fn advance(
         row_list,
         row,
     );
-    if is_none(pivot, s) {
-        return Step::Stop(SPENT, s);
+    if !is_usable(reading.restart, pivot, s, column_flags) {
+        return without(reading, rows, row_flags, s);
     }
     let j = pivot.place;
     accept(
         samples,
         tolerance,
+        reading,
         s,
         j,
         u,

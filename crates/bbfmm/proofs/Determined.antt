@@ -112,8 +112,8 @@ module _ (values : List Float) (epsilon : Float) (place : List ℕ) (r r' : ℕ 
   bbfmm-calculate-singular-values-cutoff-determined : r ≡ cutoffTold values epsilon place → r' ≡ cutoffTold values epsilon place → r ≡ r'
   bbfmm-calculate-singular-values-cutoff-determined = coincide r r' (cutoffTold values epsilon place)
 
-module _ (rows columns : ℕ) (samples : List Float) (epsilon : Float) (lent : Memory) (counts : List ℕ) (estimate : List Float)
-    (r r' : Crossed) where
-  bbfmm-aca-partial-pivoting-determined : r ≡ crossTold rows columns samples epsilon lent counts estimate →
-      r' ≡ crossTold rows columns samples epsilon lent counts estimate → r ≡ r'
-  bbfmm-aca-partial-pivoting-determined = coincide r r' (crossTold rows columns samples epsilon lent counts estimate)
+module _ (rows columns : ℕ) (samples : List Float) (epsilon : Float) (restart : Bool) (lent : Memory) (counts : List ℕ)
+    (estimate : List Float) (r r' : Crossed) where
+  bbfmm-aca-partial-pivoting-determined : r ≡ crossTold rows columns samples epsilon restart lent counts estimate →
+      r' ≡ crossTold rows columns samples epsilon restart lent counts estimate → r ≡ r'
+  bbfmm-aca-partial-pivoting-determined = coincide r r' (crossTold rows columns samples epsilon restart lent counts estimate)

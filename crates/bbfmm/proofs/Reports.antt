@@ -1,6 +1,6 @@
 -- What the call of cross approximation answers in numbers: by slices that do not fit, or by the run's own answer. Assumes nothing.
 use mathlib.Core.Path.{_≡_, refl, ap, _∙_}
-use mathlib.Core.Bool.{true, false, _&&_}
+use mathlib.Core.Bool.{Bool, true, false, _&&_}
 use mathlib.Core.List.{List, [], _∷_}
 use mathlib.Core.Option.{Option}
 use Prim.Native.Nat.{ℕ, zero, suc}
@@ -42,23 +42,23 @@ module _ (c : List ℕ) (e : List Float) where
   pub unfit-estimate : length c ≡ 3 → (length e ≡ 1 → ⊥) → reportFits c e ≡ false
   unfit-estimate h h' = rw (eq-eqb (length c) 3 h, ne-eqb (length e) 1 h')
 
-module _ (m n : ℕ) (a : List Float) (epsilon : Float) (t : Memory) (c : List ℕ) (e : List Float) where
+module _ (m n : ℕ) (a : List Float) (epsilon : Float) (restart : Bool) (t : Memory) (c : List ℕ) (e : List Float) where
   -- slices that do not fit: too many rows or columns are refused first, and nothing is written
-  unfit-is : reportFits c e ≡ false → unfitNumber m n ≡ crossNumber m n a t c e
+  unfit-is : reportFits c e ≡ false → unfitNumber m n ≡ crossNumber restart m n a t c e
   unfolding unfitNumber crossNumber withLength lower acaNumber
   unfit-is h =
-      rw h (by-bool (leb m mostEntries && leb n mostEntries) (λ l. rw l (by-bool (fits m n (lengths a t)) (λ f. rw f) (λ f. rw f)))
+      rw h (by-bool (leb m mostEntries && leb n mostEntries) (λ l. rw l (by-bool (fits restart m n (lengths a t)) (λ f. rw f) (λ f. rw f)))
       (λ l. rw l))
 
   unfit-refuses : unfitNumber m n ≡ 0 → ⊥
   unfolding unfitNumber
   unfit-refuses = by-bool (leb m mostEntries && leb n mostEntries) (λ l. rw l (λ z. omega arith)) (λ l. rw l (λ z. omega arith))
 
-  pub cross-unfit : (r : ℕ) → r ≡ unfitNumber m n → reportFits c e ≡ false → crossed r t c e ≡ crossTold m n a epsilon t c e
+  pub cross-unfit : (r : ℕ) → r ≡ unfitNumber m n → reportFits c e ≡ false → crossed r t c e ≡ crossTold m n a epsilon restart t c e
   unfolding crossTold
   cross-unfit r h f =
-      let number = crossNumber m n a t c e in
-      let end = approximation m n a epsilon t in
+      let number = crossNumber restart m n a t c e in
+      let end = approximation m n a epsilon restart t in
       let no : number ≡ 0 → ⊥ = rw (unfit-is f) at unfit-refuses in
       rw (
         left-refused number (laid (end .found) t) t no,
@@ -70,13 +70,13 @@ module _ (m n : ℕ) (a : List Float) (epsilon : Float) (t : Memory) (c : List �
 
   -- slices that fit: the answer of the run, in numbers
   pub cross-fit : (r : Approximation) (t' : Memory) (number : ℕ) (c' : List ℕ) (e' : List Float) → reportFits c e ≡ true →
-      call (told r) t' ≡ acaCall m n a epsilon t → (number, c', e') ≡ reportTold (told r) c e →
-      crossed number t' c' e' ≡ crossTold m n a epsilon t c e
+      call (told r) t' ≡ acaCall m n a epsilon restart t → (number, c', e') ≡ reportTold (told r) c e →
+      crossed number t' c' e' ≡ crossTold m n a epsilon restart t c e
   unfolding acaCall crossTold crossNumber
   cross-fit r t' number c' e' f h g =
-      let own = acaNumber m n (lengths a t) in
-      let end = approximation m n a epsilon t in
-      let same : crossNumber m n a t c e ≡ own = rw f (with-fit own) in
+      let own = acaNumber restart m n (lengths a t) in
+      let end = approximation m n a epsilon restart t in
+      let same : crossNumber restart m n a t c e ≡ own = rw f (with-fit own) in
       let tells : told r ≡ answer own (report end) = ap (λ (x : Call). x .tells) h in
       let leaves : t' ≡ left own (laid (end .found) t) t = ap (λ (x : Call). x .leaves) h in
       let whole : _≡_ {A = ℕ × List ℕ × List Float} (number, c', e')

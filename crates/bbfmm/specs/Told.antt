@@ -54,8 +54,9 @@ countsOf r = r .rank ∷ r .stop ∷ r .«rows_read» ∷ []
 abbrev pub reportFits : (counts : List ℕ) → (estimate : List Float) → Bool
 reportFits c e = eqb (length c) 3 && eqb (length e) 1
 
-unfoldable pub crossNumber : (m n : ℕ) → (samples : List Float) → Memory → (counts : List ℕ) → (estimate : List Float) → ℕ
-crossNumber m n a t c e = withLength (acaNumber m n (lengths a t)) (reportFits c e)
+unfoldable pub crossNumber : (restart : Bool) → (m n : ℕ) → (samples : List Float) → Memory → (counts : List ℕ) →
+    (estimate : List Float) → ℕ
+crossNumber restart m n a t c e = withLength (acaNumber restart m n (lengths a t)) (reportFits c e)
 
 -- the number, the memory of the run, and both slices
 pub record Crossed : Type 0 where
@@ -67,9 +68,9 @@ pub record Crossed : Type 0 where
 abbrev pub crossed : (number : ℕ) → Memory → (counts : List ℕ) → (estimate : List Float) → Crossed
 crossed n t c e = record { number = n; leaves = t; counts = c; estimate = e }
 
-unfoldable pub crossTold : (m n : ℕ) → (samples : List Float) → (epsilon : Float) → Memory → (counts : List ℕ) →
+unfoldable pub crossTold : (m n : ℕ) → (samples : List Float) → (epsilon : Float) → (restart : Bool) → Memory → (counts : List ℕ) →
     (estimate : List Float) → Crossed
-crossTold m n a epsilon t c e =
-    let f = approximation m n a epsilon t in
-    let number = crossNumber m n a t c e in
+crossTold m n a epsilon restart t c e =
+    let f = approximation m n a epsilon restart t in
+    let number = crossNumber restart m n a t c e in
     crossed number (left number (laid (f .found) t) t) (left number (countsOf (report f)) c) (left number (report f .estimate ∷ []) e)

@@ -39,13 +39,15 @@ fn tell_report(made: Approximation, counts: &mut [usize], estimate: &mut [f64]) 
     }
 }
 
-// The block as U times the transpose of V, with the rows and columns that were read for it; rank, stop and rows read in `counts`.
+// The block as U times the transpose of V, with the rows and columns that were read for it, in either mode; rank, stop and rows read
+// in `counts`.
 #[no_mangle]
 pub extern "C" fn bbfmm_aca_partial_pivoting(
     rows: usize,
     columns: usize,
     samples: &[f64],
     epsilon: f64,
+    restart: bool,
     u: &mut [f64],
     v: &mut [f64],
     row_list: &mut [u16],
@@ -57,7 +59,7 @@ pub extern "C" fn bbfmm_aca_partial_pivoting(
 ) -> u8
     ensures { λ r. ⌜ crossed r (behind (u .exit) (v .exit) («row_list» .exit) («column_list» .exit) (row .exit) (column .exit))
         (now (counts .exit)) (now (estimate .exit))
-        ≡ crossTold rows columns (now (samples .entry)) epsilon
+        ≡ crossTold rows columns (now (samples .entry)) epsilon «restart»
         (behind (u .entry) (v .entry) («row_list» .entry) («column_list» .entry) (row .entry) (column .entry))
         (now (counts .entry)) (now (estimate .entry)) ⌝ }
 {
@@ -72,6 +74,7 @@ pub extern "C" fn bbfmm_aca_partial_pivoting(
         columns,
         samples,
         epsilon,
+        restart,
         u,
         v,
         row_list,

@@ -2,19 +2,27 @@
 use mathlib.Core.Path.{refl}
 use lib.Count.{trailingZeros}
 use lib.Ieee.{add, sub, mul, div, neg, lt, eq, le, ofInt, ofBits, ofFields, odd, units, round, sum, size as digits, span, climb}
-use Rattle.common.specs.Floats.{size}
-use Rattle.common.specs.Refusals.{isCell}
+use Rattle.common.specs.Floats.{size, sums}
+use Rattle.common.specs.Refusals.{isCell, left}
 use Rattle.common.specs.Digits.{digit}
-use Rattle.common.specs.Tests.{each, those}
+use Rattle.common.specs.Tests.{each, any, lowest, those}
 use Rattle.vectors.specs.Vectors.{isReference, references, entry}
 use Rattle.roots.specs.Values.{floorRoot, nearestRoot, root}
 use Rattle.distances.specs.Distances.{added}
 use Rattle.coordinates.specs.Coordinates.{allFinite, coordinateIn, inCell, allInCell, pointsNumber}
+use Rattle.aca_lines.specs.Largest.{best, argmax, pivot}
+use Rattle.aca_lines.specs.Lines.{residual, multiplied, norm, cross}
+use Rattle.aca_steps.specs.Crosses.{unread, rowRead, columnRead, grown, weighed, stored, elsewhere, onward, without, usable, judged}
+use Rattle.aca_steps.specs.Crosses.{accepted, tried, step}
+use Rattle.aca_steps.specs.Memories.{laid}
+use Rattle.aca.specs.Runs.{followed, run, report, fits, acaNumber, approximation, acaCall}
 use Rattle.fixed.specs.Requests.{Requested}
 
 pub requested : Requested
 unfolding size isCell each allFinite coordinateIn inCell allInCell pointsNumber floorRoot nearestRoot root added digit references entry
-    isReference those trailingZeros add sub mul div neg lt eq le ofInt ofBits ofFields odd units round sum digits span climb
+    isReference those sums best argmax pivot residual multiplied norm cross any lowest unread rowRead columnRead grown weighed stored
+    elsewhere onward without usable judged accepted tried step followed run report laid fits acaNumber approximation acaCall left
+    trailingZeros add sub mul div neg lt eq le ofInt ofBits ofFields odd units round sum digits span climb
 requested =
     record {
       border-passes = refl;
@@ -31,4 +39,9 @@ requested =
       root-of-least = refl;
       on-a-line = refl;
       in-a-plane = refl;
+      unit-restarted = λ x i. refl;
+      low-restarted = λ x i. refl;
+      nan-restarted = λ x i. refl;
+      nan-old = λ x i. refl;
+      seven-squared = λ x i. refl;
     }

@@ -1,12 +1,17 @@
 -- Results that the requests fix, as one table: each row is a line of a request, said of the definition that a call's contract cites.
+use Prim.Native.Nat.{ℕ}
 use mathlib.Core.Path.{_≡_}
+use mathlib.Core.Option.{some}
 use mathlib.Core.Bool.{true, false}
 use mathlib.Core.List.{[], _∷_}
 use lib.Ieee.{Float, nan, inf, neg, ofBits, binary64}
-use Rattle.common.specs.Floats.{zero₆₄, one₆₄, two₆₄}
+use Rattle.common.specs.Floats.{float, zero₆₄, one₆₄, two₆₄, half₆₄}
 use Rattle.coordinates.specs.Coordinates.{pointsNumber}
 use Rattle.roots.specs.Values.{root}
 use Rattle.distances.specs.Distances.{sample}
+use Rattle.aca_steps.specs.Memories.{memory}
+use Rattle.aca.specs.Runs.{call, acaCall}
+use Rattle.fixed.specs.Results.{two, four, lent}
 
 -- 1 + 2 ^ -20, and the next float
 abbrev pub border : Float
@@ -33,3 +38,29 @@ pub record Requested : Type 0 where
   -- E3: between the single nodes of two blocks of side 1, two blocks apart on a line; and at (2, 1), the root of 5
   pub on-a-line : sample 1 1 one₆₄ 0 (zero₆₄ ∷ []) 0 0 ≡ two₆₄
   pub in-a-plane : sample 2 1 one₆₄ 1 (zero₆₄ ∷ []) 0 0 ≡ ofBits binary64 0x4001e3779b97f4a8
+  -- E4, restart mode at 0.5: rows (1,0),(0,1) give rank 2, rows 0,1, columns 0,1, stop 3
+  pub unit-restarted : (x : Float) (i : ℕ) →
+      acaCall 2 2 (four one₆₄ zero₆₄ zero₆₄ one₆₄) half₆₄ true (lent x i)
+      ≡ call (0, some (record { rank = 2; estimate = two₆₄; stop = 3; «rows_read» = 2 }))
+      (memory (four one₆₄ zero₆₄ zero₆₄ one₆₄) (four one₆₄ zero₆₄ zero₆₄ one₆₄) (two 0 1) (two 0 1) (two zero₆₄ one₆₄) (two zero₆₄ one₆₄))
+  -- rows (0,0),(1,0) give rank 1, rows 0,1, column 0, stop 4
+  pub low-restarted : (x : Float) (i : ℕ) →
+      acaCall 2 2 (four zero₆₄ one₆₄ zero₆₄ zero₆₄) half₆₄ true (lent x i)
+      ≡ call (0, some (record { rank = 1; estimate = one₆₄; stop = 4; «rows_read» = 2 }))
+      (memory (four zero₆₄ one₆₄ x x) (four one₆₄ zero₆₄ x x) (two 0 1) (two 0 i) (two one₆₄ zero₆₄) (two zero₆₄ one₆₄))
+  -- the block (NaN) gives rank 0, row 0, stop 4; and in the old mode rank 1, stop 3
+  pub nan-restarted : (x : Float) (i : ℕ) →
+      acaCall 1 1 (nan ∷ []) half₆₄ true (memory (x ∷ []) (x ∷ []) (i ∷ []) (i ∷ []) (x ∷ []) (x ∷ []))
+      ≡ call (0, some (record { rank = 0; estimate = zero₆₄; stop = 4; «rows_read» = 1 }))
+      (memory (x ∷ []) (x ∷ []) (0 ∷ []) (i ∷ []) (nan ∷ []) (x ∷ []))
+  pub nan-old : (x : Float) (i : ℕ) →
+      acaCall 1 1 (nan ∷ []) half₆₄ false (memory (x ∷ []) (x ∷ []) (i ∷ []) (i ∷ []) (x ∷ []) (x ∷ []))
+      ≡ call (0, some (record { rank = 1; estimate = nan; stop = 3; «rows_read» = 1 }))
+      (memory (nan ∷ []) (nan ∷ []) (0 ∷ []) (0 ∷ []) (nan ∷ []) (nan ∷ []))
+  -- Rows (49,0),(0,0). 49 times 1/49 falls short of 1 by 2 ^ -53, so the first term leaves something of row 0. The old mode reads that
+  -- row again, and takes column 0 twice. Restart mode reads row 1, which has nothing in column 1: rank 1, rows 0,1, column 0, stop 4.
+  pub seven-squared : (x : Float) (i : ℕ) →
+      acaCall 2 2 (four (float 49) zero₆₄ zero₆₄ zero₆₄) half₆₄ true (lent x i)
+      ≡ call (0, some (record { rank = 1; estimate = ofBits binary64 0x40a2c1ffffffffff; stop = 4; «rows_read» = 2 }))
+      (memory (four (float 49) zero₆₄ x x) (four (ofBits binary64 0x3fefffffffffffff) zero₆₄ x x) (two 0 1) (two 0 i)
+      (two zero₆₄ zero₆₄) (two (float 49) zero₆₄))

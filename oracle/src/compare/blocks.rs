@@ -1,4 +1,5 @@
-//! Draws the blocks that ask for cross approximations: those of the stored cases, and more.
+//! Draws the blocks that ask for cross approximations: those of the stored cases, and more. For restart
+//! mode it also spoils rows, and lists every small block.
 
 use super::draw;
 use crate::cross::Block;
@@ -92,4 +93,62 @@ fn block(random: &mut Random) -> Block {
 
 pub fn ask(random: &mut Random, stream: &mut Stream) -> Result<(), String> {
     crosses::ask(stream, &block(random)).map(drop)
+}
+
+pub fn ask_restart(random: &mut Random, stream: &mut Stream) -> Result<(), String> {
+    crosses::ask_restart(stream, &block(random))
+}
+
+/// Makes a row one of zeros, a copy of any row, a tiny one, one about the least pivot, or one with a NaN
+/// or an infinity in one column, or with NaN in all columns or all but one.
+fn spoil(random: &mut Random, block: &mut Block, row: usize) {
+    let sort = random.below(9);
+    let (other, chosen) = (random.below(block.rows), random.below(block.columns));
+    let least = f64::EPSILON;
+    for column in 0..block.columns {
+        let entry = block.entry(row, column);
+        let spoilt = match sort {
+            0 => 0.0,
+            1 => -0.0,
+            2 => block.entry(other, column),
+            3 => entry * least * least,
+            4 => random.one_of(&[0.0, least, least.next_down(), -least]),
+            5 => f64::NAN,
+            6 if column == chosen => f64::NAN,
+            7 if column == chosen => random.one_of(&[f64::INFINITY, f64::NEG_INFINITY]),
+            8 if column != chosen => f64::NAN,
+            _ => entry,
+        };
+        block.entries[row + column * block.rows] = spoilt;
+    }
+}
+
+/// Asks restart mode for a block of which about half of the rows are spoilt.
+pub fn ask_spoilt(random: &mut Random, stream: &mut Stream) -> Result<(), String> {
+    let mut block = block(random);
+    for row in 0..block.rows {
+        if block.columns > 0 && random.below(2) == 0 {
+            spoil(random, &mut block, row);
+        }
+    }
+    crosses::ask_restart(stream, &block)
+}
+
+/// Every block of these shapes whose entries are of a list, at each tolerance.
+pub fn every(shapes: &[(usize, usize)], list: &[f64], epsilons: &[f64]) -> Vec<Block> {
+    let mut blocks = Vec::new();
+    for &(rows, columns) in shapes {
+        let places = rows * columns;
+        for number in 0..list.len().pow(places as u32) {
+            // The digits of the number, in base of the list's length.
+            let digit = |place| number / list.len().pow(place as u32) % list.len();
+            blocks.extend(epsilons.iter().map(|&epsilon| Block {
+                rows,
+                columns,
+                epsilon,
+                entries: (0..places).map(|place| list[digit(place)]).collect(),
+            }));
+        }
+    }
+    blocks
 }

@@ -18,13 +18,15 @@ pub enum Call {
     Argmax,
     Cutoff,
     Cross,
+    Restart,
+    Spoilt,
 }
 
 /// Each call, the name that its cases are counted under, and what the count is divided by for it.
 ///
 /// A call that is asked in two ways has half of the cases for each, and the coefficients half of that,
 /// since the program clears megabytes before each of them.
-pub const CALLS: [(Call, &str, usize); 12] = [
+pub const CALLS: [(Call, &str, usize); 14] = [
     (Call::Polynomials, "polynomials", 2),
     (Call::Derivatives, "polynomials with derivatives", 2),
     (Call::Operators, "operators", 1),
@@ -37,10 +39,17 @@ pub const CALLS: [(Call, &str, usize); 12] = [
     (Call::Argmax, "argmax", 1),
     (Call::Cutoff, "cutoff", 1),
     (Call::Cross, "cross approximation", 1),
+    (Call::Restart, "restart mode, the same blocks", 1),
+    (Call::Spoilt, "restart mode, spoilt rows", 1),
 ];
 
 impl Call {
-    /// Draws a case, and adds it with the answer of the text.
+    /// Whether it is asked for what was drawn for the call before it.
+    pub fn repeats(self) -> bool {
+        matches!(self, Self::Restart)
+    }
+
+    /// Draws a case, and adds it with the answer of the text, or in restart mode of our own rule.
     pub fn ask(self, random: &mut Random, stream: &mut Stream) -> Result<(), String> {
         match self {
             Self::Polynomials => cases::polynomials(random, stream, false),
@@ -55,6 +64,8 @@ impl Call {
             Self::Argmax => cases::argmax(random, stream),
             Self::Cutoff => cases::cutoff(random, stream),
             Self::Cross => blocks::ask(random, stream)?,
+            Self::Restart => blocks::ask_restart(random, stream)?,
+            Self::Spoilt => blocks::ask_spoilt(random, stream)?,
         }
         Ok(())
     }

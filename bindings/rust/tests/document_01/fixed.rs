@@ -1,4 +1,4 @@
-//! The fixed results of document 01, those that are proved too.
+//! The fixed results of document 01 and of request E4, those that are proved too.
 
 use bbfmm::*;
 
@@ -75,11 +75,17 @@ fn choices() {
     }
 }
 
-/// The report on a block of two by two, its first terms, and its two lists.
-fn crossed(samples: [f64; 4], epsilon: f64) -> (Report, [[f64; 2]; 2], [[u16; 2]; 2]) {
-    let (mut u, mut v) = ([0.0; 4], [0.0; 4]);
-    let (mut row_list, mut column_list) = ([9; 2], [9; 2]);
-    let (mut row, mut column) = ([0.0; 2], [0.0; 2]);
+/// The report on a block given by rows, its terms, which are U and V as far as they are filled, and its
+/// two lists.
+fn crossed<const N: usize>(
+    block: [[f64; N]; N],
+    epsilon: f64,
+    mode: Mode,
+) -> (Report, [Vec<f64>; 2], [[u16; N]; 2]) {
+    let samples: Vec<f64> = (0..N * N).map(|at| block[at % N][at / N]).collect();
+    let (mut u, mut v) = (vec![7.0; N * N], vec![7.0; N * N]);
+    let (mut row_list, mut column_list) = ([9; N], [9; N]);
+    let (mut row, mut column) = ([0.0; N], [0.0; N]);
     let mut buffers = Buffers {
         u: &mut u,
         v: &mut v,
@@ -88,35 +94,90 @@ fn crossed(samples: [f64; 4], epsilon: f64) -> (Report, [[f64; 2]; 2], [[u16; 2]
         row: &mut row,
         column: &mut column,
     };
-    let report = aca_partial_pivoting(2, 2, &samples, epsilon, &mut buffers).unwrap();
-    (
-        report,
-        [[u[0], u[1]], [v[0], v[1]]],
-        [row_list, column_list],
-    )
+    let report = aca_partial_pivoting(N, N, &samples, epsilon, mode, &mut buffers).unwrap();
+    let filled = |factor: Vec<f64>| factor[..N * report.rank].to_vec();
+    (report, [filled(u), filled(v)], [row_list, column_list])
+}
+
+/// A report by what it tells.
+fn told(rank: usize, stop: Stop, rows_read: usize, estimate: f64) -> Report {
+    Report {
+        rank,
+        stop,
+        rows_read,
+        estimate,
+    }
 }
 
 #[test]
 fn crosses() {
-    let terms = [[4.0, 2.0], [0.5, 1.0]];
-    let report = Report {
-        rank: 1,
-        stop: Stop::Tolerable,
-        rows_read: 1,
-        estimate: 25.0,
-    };
-    let block = [2.0, 1.0, 4.0, 2.0];
-    assert_eq!(crossed(block, 1.0), (report, terms, [[0, 9], [1, 9]]));
-    let report = Report {
-        rank: 1,
-        stop: Stop::Spent,
-        rows_read: 2,
-        estimate: 25.0,
-    };
-    assert_eq!(crossed(block, 0.5), (report, terms, [[0, 1], [1, 9]]));
-    let (report, _, lists) = crossed([1.0, 0.0, 0.0, 1.0], 0.5);
+    let terms = [vec![4.0, 2.0], vec![0.5, 1.0]];
+    let block = [[2.0, 4.0], [1.0, 2.0]];
+    let report = told(1, Stop::Tolerable, 1, 25.0);
+    assert_eq!(
+        crossed(block, 1.0, Mode::Old),
+        (report, terms.clone(), [[0, 9], [1, 9]])
+    );
+    let report = told(1, Stop::Spent, 2, 25.0);
+    assert_eq!(
+        crossed(block, 0.5, Mode::Old),
+        (report, terms, [[0, 1], [1, 9]])
+    );
+    let (report, _, lists) = crossed([[1.0, 0.0], [0.0, 1.0]], 0.5, Mode::Old);
     assert_eq!((report.rank, report.stop), (1, Stop::Spent));
     assert_eq!(lists, [[0, 0], [0, 9]]);
+}
+
+/// The results of request E4.
+#[test]
+fn restarted_crosses() {
+    let unit = [[1.0, 0.0], [0.0, 1.0]];
+    let terms = vec![1.0, 0.0, 0.0, 1.0];
+    let report = told(2, Stop::UsedUp, 2, 2.0);
+    assert_eq!(
+        crossed(unit, 0.5, Mode::Restart),
+        (report, [terms.clone(), terms], [[0, 1], [0, 1]])
+    );
+    let below_zeros = [[0.0, 0.0], [1.0, 0.0]];
+    let report = told(1, Stop::AllTried, 2, 1.0);
+    assert_eq!(
+        crossed(below_zeros, 0.5, Mode::Restart),
+        (report, [vec![0.0, 1.0], vec![1.0, 0.0]], [[0, 1], [0, 9]])
+    );
+}
+
+/// 49 times its rounded inverse is 1 - 2^-53, whose square rounds to 1 - 2^-52; and 2401 times that is
+/// below 2401 by 1.17 steps of 2^-41, which rounds to one. The old mode reads row 0 and column 0 again.
+#[test]
+fn forty_nine_is_read_once() {
+    let block = [[49.0, 0.0], [0.0, 0.0]];
+    let below_one = 1.0 - 2f64.powi(-53);
+    let report = told(1, Stop::AllTried, 2, 2401.0 - 2f64.powi(-41));
+    assert_eq!(
+        crossed(block, 0.5, Mode::Restart),
+        (
+            report,
+            [vec![49.0, 0.0], vec![below_one, 0.0]],
+            [[0, 1], [0, 9]]
+        )
+    );
+    let (report, _, lists) = crossed(block, 0.5, Mode::Old);
+    assert_eq!((report.rank, report.stop), (2, Stop::Tolerable));
+    assert_eq!(lists, [[0, 0], [0, 0]]);
+}
+
+/// A NaN is no pivot in restart mode, and one in the old mode.
+#[test]
+fn a_nan_is_a_pivot_in_the_old_mode_only() {
+    let report = told(0, Stop::AllTried, 1, 0.0);
+    let (found, terms, lists) = crossed([[f64::NAN]], 0.5, Mode::Restart);
+    assert_eq!((found, lists), (report, [[0], [9]]));
+    assert_eq!(found.estimate.to_bits(), 0);
+    assert_eq!(terms, [vec![], vec![]]);
+    let (found, _, lists) = crossed([[f64::NAN]], 0.5, Mode::Old);
+    assert_eq!((found.rank, found.stop), (1, Stop::UsedUp));
+    assert!(found.estimate.is_nan());
+    assert_eq!(lists, [[0], [0]]);
 }
 
 #[test]
@@ -124,7 +185,7 @@ fn numbers_and_refusals_agree() {
     let numbers = Refusal::ALL.map(Refusal::number);
     assert_eq!(numbers, [1, 2, 3, 4, 5, 6, 7, 8, 9, 10, 11]);
     assert_eq!(
-        [Stop::Tolerable, Stop::Spent, Stop::UsedUp].map(Stop::number),
-        [1, 2, 3]
+        [Stop::Tolerable, Stop::Spent, Stop::UsedUp, Stop::AllTried].map(Stop::number),
+        [1, 2, 3, 4]
     );
 }

@@ -3,6 +3,7 @@
 //! any NaN equals any NaN; after a refusal every lent buffer must have the bits that it came with.
 //! Cases are drawn from fixed seeds, or are all that there are.
 
+mod blocks;
 mod chebyshev;
 mod choices;
 mod coefficients;

@@ -1,4 +1,4 @@
-//! Cross approximation, a step at a time.
+//! Cross approximation, a step at a time, in the old mode and in restart mode.
 
 use super::choices::argmax;
 use super::{bad_length, dot, refusal};
@@ -14,13 +14,26 @@ pub struct Block<'a> {
     pub samples: &'a [f64],
 }
 
-impl Block<'_> {
+impl<'a> Block<'a> {
+    pub fn new(rows: usize, columns: usize, samples: &'a [f64]) -> Self {
+        Self {
+            rows,
+            columns,
+            samples,
+        }
+    }
+
     fn at(&self, row: usize, column: usize) -> f64 {
         self.samples[row + column * self.rows]
     }
 
     pub fn lesser(&self) -> usize {
         self.rows.min(self.columns)
+    }
+
+    /// How long the list of rows is.
+    pub fn rows_listed(&self, restart: bool) -> usize {
+        if restart { self.rows } else { self.lesser() }
     }
 }
 
@@ -38,6 +51,7 @@ pub struct Run {
     pub row: Vec<f64>,
     pub column: Vec<f64>,
     next: usize,
+    restart: bool,
 }
 
 impl Run {
@@ -48,16 +62,28 @@ impl Run {
         block.at(row, column) - dot(u, v)
     }
 
-    /// Reads a row, picks a column and scales the row; or says that the row is spent.
+    /// Whether the row that was read has no pivot to go on with. The old mode asks the entry that was
+    /// picked, be its column used or not, and takes a NaN. Restart mode asks for a column that is not
+    /// used and has at least 2^-52 in size, which a NaN has not.
+    fn lacks_pivot(&self, picked: usize) -> bool {
+        let is_pivot =
+            |(at, entry): (usize, &f64)| !self.columns.contains(&at) && entry.abs() >= LEAST;
+        match self.restart {
+            true => !self.row.iter().enumerate().any(is_pivot),
+            false => self.row[picked].abs() < LEAST,
+        }
+    }
+
+    /// Reads a row, picks a column and scales the row; or says that the row has no pivot.
     fn read_row(&mut self, block: &Block) -> Option<usize> {
         let i = self.next;
         self.rows.push(i);
         self.row = (0..block.columns).map(|j| self.rest(block, i, j)).collect();
         let j = argmax(&self.row, |at| !self.columns.contains(&at));
-        let pivot = self.row[j];
-        if pivot.abs() < LEAST {
+        if self.lacks_pivot(j) {
             return None;
         }
+        let pivot = self.row[j];
         self.row.iter_mut().for_each(|entry| *entry *= 1.0 / pivot);
         Some(j)
     }
@@ -69,12 +95,8 @@ impl Run {
         self.next = argmax(&self.column, |at| !self.rows.contains(&at));
     }
 
-    /// One step, and why the run ends with it, if it does: 1 tolerance, 2 spent, 3 iterations used.
-    fn step(&mut self, block: &Block, epsilon: f64) -> Option<u8> {
-        let Some(j) = self.read_row(block) else {
-            return Some(2);
-        };
-        self.read_column(block, j);
+    /// Stores the term of the row and the column, and gives its norm.
+    fn store(&mut self) -> f64 {
         let product = |l: &[f64], r: &[f64]| dot(l.iter().copied(), r.iter().copied());
         let with_u = self.u.iter().map(|term| product(term, &self.column));
         let with_v = self.v.iter().map(|term| product(term, &self.row));
@@ -83,10 +105,41 @@ impl Run {
         self.estimate += norm + 2.0 * cross;
         self.u.push(self.column.clone());
         self.v.push(self.row.clone());
+        norm
+    }
+
+    /// Goes on with the lowest row that was not read, or ends with 4 where all were.
+    fn take_lowest(&mut self, block: &Block) -> Option<u8> {
+        match (0..block.rows).find(|row| !self.rows.contains(row)) {
+            Some(row) => {
+                self.next = row;
+                None
+            }
+            None => Some(4),
+        }
+    }
+
+    /// One step, and why the run ends with it, if it does: 1 tolerance, 2 spent, 3 iterations used, 4
+    /// every row tried.
+    fn step(&mut self, block: &Block, epsilon: f64) -> Option<u8> {
+        let Some(j) = self.read_row(block) else {
+            return match self.restart {
+                true => self.take_lowest(block),
+                false => Some(2),
+            };
+        };
+        self.read_column(block, j);
+        let norm = self.store();
         if norm <= (epsilon * epsilon) * self.estimate {
             return Some(1);
         }
-        (self.u.len() == block.lesser()).then_some(3)
+        if self.u.len() == block.lesser() {
+            return Some(3);
+        }
+        match self.restart && self.rows.contains(&self.next) {
+            true => self.take_lowest(block),
+            false => None,
+        }
     }
 }
 
@@ -96,7 +149,13 @@ pub type Floats = [Vec<f64>; 4];
 pub type Lists = [Vec<u16>; 2];
 
 /// The whole run, and why it ended.
-pub fn run(block: Block, epsilon: f64, floats: &Floats, lists: &Lists) -> Result<(Run, u8), u8> {
+pub fn run(
+    block: Block,
+    epsilon: f64,
+    restart: bool,
+    floats: &Floats,
+    lists: &Lists,
+) -> Result<(Run, u8), u8> {
     let Block {
         rows,
         columns,
@@ -109,11 +168,14 @@ pub fn run(block: Block, epsilon: f64, floats: &Floats, lists: &Lists) -> Result
         bad_length(&floats[1], &[columns, lesser]),
         bad_length(&floats[2], &[columns]),
         bad_length(&floats[3], &[rows]),
-        bad_length(&lists[0], &[lesser]),
+        bad_length(&lists[0], &[block.rows_listed(restart)]),
         bad_length(&lists[1], &[lesser]),
         (3, rows > 1024 || columns > 1024),
     ])?;
-    let mut run = Run::default();
+    let mut run = Run {
+        restart,
+        ..Run::default()
+    };
     let mut stop = (lesser == 0).then_some(3);
     while stop.is_none() {
         stop = run.step(&block, epsilon);

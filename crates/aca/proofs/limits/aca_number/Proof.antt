@@ -9,7 +9,7 @@ use Rattle.aca.proofs.limits.aca_number.Tie as tie
 
 -- there are not too many rows or columns
 counted : (c : tie.Else2) → let a = c .before .before .args in
-    acaNumber (a .rows) (a .columns) (a .lent) ≡ unless (fits (a .rows) (a .columns) (a .lent)) wrongLength 0
+    acaNumber (a .restart) (a .rows) (a .columns) (a .lent) ≡ unless (fits (a .restart) (a .rows) (a .columns) (a .lent)) wrongLength 0
 unfolding acaNumber
 counted c = rw (le-leb _ mostEntries (c .before .if1 .left), le-leb _ mostEntries (c .if2 .left))
 

@@ -1,7 +1,7 @@
 -- `aca::limits::fits` meets its contract: each return by the tests that led there. Assumes nothing.
 use borrow.Author.Needs.{needs}
 use mathlib.Core.Path.{_≡_, _∙_}
-use mathlib.Core.Bool.{Bool, _&&_}
+use mathlib.Core.Bool.{Bool, cond, _&&_}
 use Prim.Native.Nat.{ℕ, _*_, _≤_}
 use native.Mathlib.Nat.{mul-le-mul, min-le-left}
 use native.Mathlib.Omega.{arith}
@@ -14,6 +14,9 @@ use Rattle.aca.proofs.limits.fits.Statement.{statement}
 use Rattle.aca.proofs.limits.fits.Tie as tie
 
 module _ (s : tie.After-least) where
+  abbrev restart : Bool
+  restart = s .before .args .restart
+
   abbrev m : ℕ
   m = s .before .args .rows
 
@@ -37,7 +40,7 @@ module _ (s : tie.After-least) where
   rest4 = eqb (lent .«column_list») most && rest5
 
   abbrev rest3 : Bool
-  rest3 = eqb (lent .«row_list») most && rest4
+  rest3 = eqb (lent .«row_list») (cond restart m most) && rest4
 
   abbrev rest2 : Bool
   rest2 = eqb (lent .v) (most * n) && rest3
@@ -45,7 +48,7 @@ module _ (s : tie.After-least) where
   abbrev rest1 : Bool
   rest1 = eqb (lent .u) (most * m) && rest2
 
-  whole : fits m n lent ≡ (eqb (lent .samples) (n * m) && rest1)
+  whole : fits restart m n lent ≡ (eqb (lent .samples) (n * m) && rest1)
   unfolding fits
   whole = rw (← s .least .ensures)
 
@@ -67,37 +70,37 @@ module _ (s : tie.After-least) where
 abbrev at1 : tie.Else1 → tie.After-least
 at1 c = c .before .before
 
-passed1 : (c : tie.Else1) → let s = at1 c in fits (m s) (n s) (lent s) ≡ rest1 s
+passed1 : (c : tie.Else1) → let s = at1 c in fits (restart s) (m s) (n s) (lent s) ≡ rest1 s
 passed1 c = whole (at1 c) ∙ rw (eq-eqb _ _ (c .if1 .left))
 
 abbrev at2 : tie.Else2 → tie.After-least
 at2 c = at1 (c .before .before)
 
-passed2 : (c : tie.Else2) → let s = at2 c in fits (m s) (n s) (lent s) ≡ rest2 s
+passed2 : (c : tie.Else2) → let s = at2 c in fits (restart s) (m s) (n s) (lent s) ≡ rest2 s
 passed2 c = passed1 (c .before .before) ∙ rw (eq-eqb _ _ (c .if2 .left))
 
 abbrev at3 : tie.Else3 → tie.After-least
 at3 c = at2 (c .before .before)
 
-passed3 : (c : tie.Else3) → let s = at3 c in fits (m s) (n s) (lent s) ≡ rest3 s
+passed3 : (c : tie.Else3) → let s = at3 c in fits (restart s) (m s) (n s) (lent s) ≡ rest3 s
 passed3 c = passed2 (c .before .before) ∙ rw (eq-eqb _ _ (c .if3 .left))
 
 abbrev at4 : tie.Else4 → tie.After-least
-at4 c = at3 (c .before .before)
+at4 c = at3 (c .before .before .before)
 
-passed4 : (c : tie.Else4) → let s = at4 c in fits (m s) (n s) (lent s) ≡ rest4 s
-passed4 c = passed3 (c .before .before) ∙ rw (eq-eqb _ _ (c .if4 .left))
+passed4 : (c : tie.Else4) → let s = at4 c in fits (restart s) (m s) (n s) (lent s) ≡ rest4 s
+passed4 c = passed3 (c .before .before .before) ∙ rw (eq-eqb _ _ (c .if4 .left ∙ c .before .before .listed .ensures))
 
 abbrev at5 : tie.Else5 → tie.After-least
 at5 c = at4 (c .before .before)
 
-passed5 : (c : tie.Else5) → let s = at5 c in fits (m s) (n s) (lent s) ≡ rest5 s
+passed5 : (c : tie.Else5) → let s = at5 c in fits (restart s) (m s) (n s) (lent s) ≡ rest5 s
 passed5 c = passed4 (c .before .before) ∙ rw (eq-eqb _ _ (c .if5 .left))
 
 abbrev at6 : tie.Else6 → tie.After-least
 at6 c = at5 (c .before .before)
 
-passed6 : (c : tie.Else6) → let s = at6 c in fits (m s) (n s) (lent s) ≡ rest6 s
+passed6 : (c : tie.Else6) → let s = at6 c in fits (restart s) (m s) (n s) (lent s) ≡ rest6 s
 passed6 c = passed5 (c .before .before) ∙ rw (eq-eqb _ _ (c .if6 .left))
 
 -- THE NEEDS
@@ -123,8 +126,13 @@ mul-if3 c = omega (arith, v-small (at2 c))
 returns-3 : tie.Need-returns-3
 returns-3 c = rw (passed2 (c .before .before), ne-eqb _ _ (c .if3 .taken))
 
+listed-requires : tie.Need-listed-requires
+listed-requires c κs = search needs
+
 returns-4 : tie.Need-returns-4
-returns-4 c = rw (passed3 (c .before .before), ne-eqb _ _ (c .if4 .taken))
+returns-4 c =
+    let l = c .before .before in
+    rw (passed3 (l .before), ne-eqb _ _ (rw (l .listed .ensures) at (c .if4 .taken)))
 
 returns-5 : tie.Need-returns-5
 returns-5 c = rw (passed4 (c .before .before), ne-eqb _ _ (c .if5 .taken))
@@ -146,6 +154,7 @@ fits-spec =
     returns-2
     mul-if3
     returns-3
+    listed-requires
     returns-4
     returns-5
     returns-6

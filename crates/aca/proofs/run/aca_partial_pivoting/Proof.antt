@@ -24,12 +24,12 @@ lent c =
 abbrev after : tie.After-run → Memory
 after c =
     memory
-    (c .run .last .1 .1 .0)
     (c .run .last .1 .1 .1 .0)
-    (c .run .last .1 .1 .1 .1 .1 .1 .0)
+    (c .run .last .1 .1 .1 .1 .0)
     (c .run .last .1 .1 .1 .1 .1 .1 .1 .0)
     (c .run .last .1 .1 .1 .1 .1 .1 .1 .1 .0)
     (c .run .last .1 .1 .1 .1 .1 .1 .1 .1 .1 .0)
+    (c .run .last .1 .1 .1 .1 .1 .1 .1 .1 .1 .1 .0)
 
 aca-number-requires : tie.Need-aca-number-requires
 aca-number-requires c κs = search needs
@@ -38,7 +38,8 @@ returns : tie.Need-returns
 returns c =
     let n = c .before in
     let a = start n .args in
-    refused (a .rows) (a .columns) (a .samples .now) (a .epsilon) (lent n) (n .aca-number .result) (n .aca-number .ensures) (c .if1 .taken)
+    refused (a .rows) (a .columns) (a .samples .now) (a .epsilon) (a .restart) (lent n) (n .aca-number .result) (n .aca-number .ensures)
+    (c .if1 .taken)
 
 all-on-requires : tie.Need-all-on-requires
 all-on-requires c κs = search needs
@@ -52,8 +53,8 @@ run-requires c κs =
     let o = f .before .before in
     let n = o .before in
     let a = start n .args in
-    begun (a .rows) (a .columns) (a .samples .now) (a .epsilon) (lent n) (n .aca-number .result) (n .aca-number .ensures) (o .if1 .left)
-    _ _ (f .before .all-on .ensures) (f .all-on2 .ensures)
+    begun (a .rows) (a .columns) (a .samples .now) (a .epsilon) (a .restart) (lent n) (n .aca-number .result) (n .aca-number .ensures)
+    (o .if1 .left) _ _ (f .before .all-on .ensures) (f .all-on2 .ensures)
 
 same-length : tie.Need-same-length
 same-length c = search needs
@@ -79,8 +80,8 @@ returns-2 c =
     let o = flagged (r .before) .before .before in
     let n = o .before in
     let a = start n .args in
-    finished (a .rows) (a .columns) (a .samples .now) (a .epsilon) (lent n) (n .aca-number .result) (n .aca-number .ensures) (o .if1 .left)
-    (r .run .result) (after r) (r .run .ensures)
+    finished (a .rows) (a .columns) (a .samples .now) (a .epsilon) (a .restart) (lent n) (n .aca-number .result) (n .aca-number .ensures)
+    (o .if1 .left) (r .run .result) (after r) (r .run .ensures)
 
 pub aca-partial-pivoting-spec : {M : Type 1} → statement M
 aca-partial-pivoting-spec =

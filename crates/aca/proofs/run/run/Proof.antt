@@ -2,6 +2,7 @@
 -- whole run. Assumes nothing.
 use borrow.Author.Needs.{needs}
 use mathlib.Core.Path.{_≡_, refl}
+use mathlib.Core.Bool.{Bool}
 use mathlib.Core.List.{List}
 use Prim.Native.Nat.{_-_, _<_}
 use native.Mathlib.Omega.{arith}
@@ -9,25 +10,26 @@ use lib.Ieee.{Float}
 use lib.ListN.{length}
 use Rattle.common.specs.Refusals.{mostEntries}
 use Rattle.aca_steps.specs.Memories.{Memory, memory}
-use Rattle.aca.proofs.Repeated.{Alike, alike-both, Going, going-none, ends, ready, stops, goes}
+use Rattle.aca.proofs.Repeated.{Alike, alike-both, steps-left, Going, going-none, ends, ready, known-after, stops, goes}
+use Rattle.aca.specs.Runs.{stepsOf}
 use Rattle.aca.proofs.run.run.Statement.{statement}
 use Rattle.aca.proofs.run.run.Tie as tie
 
 abbrev Inv-loop : tie.InvT-loop
-Inv-loop samples tolerance u₀ v₀ row-flags₀ column-flags₀ row-list₀ column-list₀ row₀ column₀ most s₀ read₀
-    u v row-flags column-flags row-list column-list row column s read =
-    (most ≡ length row-list₀) ×
-    Going samples tolerance (memory u₀ v₀ row-list₀ column-list₀ row₀ column₀) (memory u v row-list column-list row column)
-    row-flags column-flags s read
+Inv-loop samples tolerance restart u₀ v₀ row-flags₀ column-flags₀ row-list₀ column-list₀ row₀ column₀ rows most s₀ read₀ low₀
+    u v row-flags column-flags row-list column-list row column s read low =
+    (rows ≡ length column₀) × (most ≡ stepsOf (length row-list₀) (length column-list₀)) ×
+    Going samples tolerance restart (memory u₀ v₀ row-list₀ column-list₀ row₀ column₀) (memory u v row-list column-list row column)
+    row-flags column-flags s read low
 
 abbrev μ-loop : tie.MeasureT-loop
-μ-loop samples tolerance u₀ v₀ row-flags₀ column-flags₀ row-list₀ column-list₀ row₀ column₀ most s₀ read₀
-    u v row-flags column-flags row-list column-list row column s read = most - read
+μ-loop samples tolerance restart u₀ v₀ row-flags₀ column-flags₀ row-list₀ column-list₀ row₀ column₀ rows most s₀ read₀ low₀
+    u v row-flags column-flags row-list column-list row column s read low = most - read
 
 -- THE PLACES, each from the one after it
 
 abbrev start : tie.At-loop Inv-loop μ-loop → tie.Start Inv-loop μ-loop
-start c = c .before .before .before .before .before .before .before .before
+start c = c .before .before .before .before .before .before .before .before .before
 
 abbrev stepping : tie.After-advance-arg8 Inv-loop μ-loop → tie.In-loop Inv-loop μ-loop
 stepping c = c .before .before .before .before .before .before .before .before
@@ -46,6 +48,9 @@ module _ (c : tie.At-loop Inv-loop μ-loop) where
   abbrev tolerance : Float
   tolerance = start c .args .tolerance
 
+  abbrev restart : Bool
+  restart = start c .args .restart
+
   abbrev lent : Memory
   lent =
       let a = start c .args in
@@ -54,16 +59,21 @@ module _ (c : tie.At-loop Inv-loop μ-loop) where
   abbrev held : Memory
   held = memory (c .loop .u) (c .loop .v) (c .loop .row-list) (c .loop .column-list) (c .loop .row) (c .loop .column)
 
-  going : Going samples tolerance lent held (c .loop .row-flags) (c .loop .column-flags) (c .loop .s) (c .loop .read)
-  going = c .loop .inv .1
+  going : Going samples tolerance restart lent held (c .loop .row-flags) (c .loop .column-flags) (c .loop .s) (c .loop .read) (c .loop .low)
+  going = c .loop .inv .2
 
 -- inside the loop a step is left
 module _ (c : tie.In-loop Inv-loop μ-loop) where
-  remains : c .before .loop .read < length (start (c .before) .args .row-list .now)
-  remains = rw (c .before .loop .inv .0) at (c .loop-test .taken)
+  remains :
+      let a = start (c .before) .args in
+      c .before .loop .read < stepsOf (length (a .row-list .now)) (length (a .column-list .now))
+  remains = rw (c .before .loop .inv .1) at (c .loop-test .taken)
 
   few : c .before .loop .read < mostEntries
-  few = let s = start (c .before) .pre in omega (arith, remains, s .short, s .sizes .tall)
+  few =
+      let s = start (c .before) in
+      let place = steps-left (length (s .args .row-list .now)) (length (s .args .column-list .now)) (c .before .loop .read) remains in
+      omega (arith, place .0, s .pre .short, s .pre .sizes .tall)
 
 -- after the step: the lengths stay
 module _ (c : tie.After-advance Inv-loop μ-loop) where
@@ -95,16 +105,19 @@ module _ (c : tie.After-advance Inv-loop μ-loop) where
   all-same : Alike (lent (from .before)) after
   all-same = alike-both _ _ _ (going (from .before) .alike) same
 
+steps-of-requires : tie.Need-steps-of-requires Inv-loop μ-loop
+steps-of-requires c κs = search needs
+
 loop-holds : tie.Need-loop-holds Inv-loop μ-loop
 loop-holds c =
-    let s = c .before .before .before .before .before .before .before in
-    (refl, going-none (s .args .samples .now) (s .args .tolerance) _ _ _ (s .pre))
+    let s = c .before .before .before .before .before .before .before .before in
+    (refl, c .steps-of .ensures, going-none (s .args .samples .now) (s .args .tolerance) (s .args .restart) _ _ _ (s .pre))
 
 advance-requires : tie.Need-advance-requires Inv-loop μ-loop
 advance-requires c κs =
     let i = stepping c in
     let l = i .before in
-    ready (samples l) (tolerance l) (lent l) _ _ (start l .pre) (held l) _ _ _ _ (going l) (remains i)
+    ready (samples l) (tolerance l) (restart l) (lent l) _ _ (start l .pre) (held l) _ _ _ _ _ (going l) (remains i)
 
 enum-known-made : tie.Need-enum-known-made Inv-loop μ-loop
 enum-known-made c = search needs
@@ -142,27 +155,34 @@ returns c =
     let i = from a in
     let l = i .before in
     rw (c .report .ensures)
-    (stops (samples l) (tolerance l) (lent l) _ _ (start l .pre) (held l) _ _ _ _ (going l) (remains i)
+    (stops (samples l) (tolerance l) (restart l) (lent l) _ _ (start l .pre) (held l) _ _ _ _ _ (going l) (remains i)
     _ (after a) _ _ (a .advance .ensures) _ _ (c .before .before .made2 .given .1))
 
+risen-requires : tie.Need-risen-requires Inv-loop μ-loop
+risen-requires c κs =
+    let a = stepped-on (c .before) in
+    let i = from a in
+    let l = i .before in
+    rw (l .loop .inv .0)
+    (known-after (samples l) (tolerance l) (restart l) (lent l) _ _ (start l .pre) (held l) _ _ _ _ _ (going l) (remains i)
+    _ (after a) _ _ (a .advance .ensures))
+
 add-read : tie.Need-add-read Inv-loop μ-loop
-add-read c =
-    let i = from (stepped-on c) in
-    let s = start (i .before) .pre in
-    omega (arith, few i, i .before .loop .inv .0, s .short, s .sizes .tall)
+add-read c = let i = from (stepped-on (c .before .before)) in omega (arith, few i)
 
 loop-less : tie.Need-loop-less Inv-loop μ-loop
-loop-less c = omega (arith, from (stepped-on c) .loop-test .taken)
+loop-less c = omega (arith, from (stepped-on (c .before .before)) .loop-test .taken)
 
 loop-again : tie.Need-loop-again Inv-loop μ-loop
 loop-again c =
-    let a = stepped-on c in
+    let t = c .before .before in
+    let a = stepped-on t in
     let i = from a in
     let l = i .before in
     let on =
-    goes (samples l) (tolerance l) (lent l) _ _ (start l .pre) (held l) _ _ _ _ (going l) (remains i)
+    goes (samples l) (tolerance l) (restart l) (lent l) _ _ (start l .pre) (held l) _ _ _ _ _ (going l) (remains i)
     _ (after a) _ _ (a .advance .ensures) in
-    (l .loop .inv .0, on _ (c .before .made .given .1) (same a))
+    (l .loop .inv .0, l .loop .inv .1, on _ _ (t .before .made .given .1) (rw (l .loop .inv .0) at (c .risen .ensures)) (same a))
 
 report-requires-2 : tie.Need-report-requires-2 Inv-loop μ-loop
 report-requires-2 c κs = search needs
@@ -188,8 +208,8 @@ same-length-12 c = going (c .before .before) .alike .column-same
 returns-2 : tie.Need-returns-2 Inv-loop μ-loop
 returns-2 c =
     let l = c .before .before in
-    let over = rw (l .loop .inv .0) at (c .before .loop-test .left) in
-    rw (c .report2 .ensures) (ends (samples l) (tolerance l) (lent l) _ _ (start l .pre) (held l) _ _ _ _ (going l) over)
+    let over = rw (l .loop .inv .1) at (c .before .loop-test .left) in
+    rw (c .report2 .ensures) (ends (samples l) (tolerance l) (restart l) (lent l) _ _ (start l .pre) (held l) _ _ _ _ _ (going l) over)
 
 pub run-spec : {M : Type 1} → statement M
 run-spec =
@@ -197,6 +217,7 @@ run-spec =
     (tie.spec
     Inv-loop
     μ-loop
+    steps-of-requires
     loop-holds
     advance-requires
     enum-known-made
@@ -210,6 +231,7 @@ run-spec =
     same-length-5
     same-length-6
     returns
+    risen-requires
     add-read
     loop-less
     loop-again

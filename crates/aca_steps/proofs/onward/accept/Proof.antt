@@ -1,8 +1,13 @@
 -- `aca_steps::onward::accept` meets its contract. Assumes nothing.
 use borrow.Author.Needs.{needs}
-use mathlib.Core.Path.{_≡_}
+use mathlib.Core.Path.{_≡_, sym, subst}
+use Prim.Native.Nat.{ℕ, _<_}
 use native.Mathlib.Omega.{arith}
 use lib.ListN.{length}
+use Rattle.aca_lines.specs.Flags.{isOn}
+use Rattle.aca_lines.proofs.Largest.{argmax-in}
+use Rattle.aca_steps.specs.Crosses.{grown}
+use Rattle.aca_steps.specs.Working.{judgedHere}
 use Rattle.aca_steps.proofs.Terms.{judged-so}
 use Rattle.aca_steps.proofs.onward.accept.Statement.{statement}
 use Rattle.aca_steps.proofs.onward.accept.Tie as tie
@@ -31,6 +36,17 @@ module _ (c : tie.After-take-column) where
   column-same : length (c .take-column .last .1 .1 .1 .1 .1 .1 .1 .1 .1 .0) ≡ length (start c .args .column .now)
   column-same = c .take-column .kept .1 .1 .1 .1 .1 .1 .1 .1 .1 .0
 
+  list-same : length (c .take-column .last .1 .1 .1 .1 .1 .1 .1 .0) ≡ length (start c .args .column-list .now)
+  list-same = c .take-column .kept .1 .1 .1 .1 .1 .1 .1 .0
+
+  -- the row to read next is one of the block's
+  next-inside : c .take-column .result < length (start c .args .column .now)
+  next-inside =
+      subst (λ (n : ℕ). n < length (start c .args .column .now)) (sym (c .take-column .ensures .0))
+      (rw column-same at
+      (argmax-in (c .take-column .last .1 .1 .1 .1 .1 .1 .1 .1 .1 .0) (isOn (start c .args .row-flags .now))
+      (rw column-same (start c .pre .1 .some))))
+
 take-column-requires : tie.Need-take-column-requires
 take-column-requires c κs = search needs
 
@@ -40,20 +56,25 @@ norm-requires c κs = search needs
 cross-requires : tie.Need-cross-requires
 cross-requires c κs =
     let t = column-taken (c .before .before .before .before) in
-    let f = start t .pre in
+    let f = start t .pre .0 in
     rw (column-same t, row-same t) (omega (arith, f .u-room), omega (arith, f .v-room))
 
 store-requires : tie.Need-store-requires
 store-requires c κs =
     let t = column-taken (normed (c .before .before .before .before)) in
-    let f = start t .pre in
+    let f = start t .pre .0 in
     rw (column-same t, row-same t) (f .u-room, f .v-room)
 
 grow-requires : tie.Need-grow-requires
-grow-requires c κs = start (column-taken (normed (crossed (c .before .before .before .before)))) .pre .few
+grow-requires c κs = start (column-taken (normed (crossed (c .before .before .before .before)))) .pre .0 .few
 
 judge-requires : tie.Need-judge-requires
-judge-requires c κs = search needs
+unfolding grown
+judge-requires c κs =
+    let t = column-taken (normed (crossed (c .before .before .before .before .before))) in
+    let known = start t .pre .1 in
+    rw (column-same t)
+    (known, rw (c .grow .ensures) (next-inside t))
 
 same-length : tie.Need-same-length
 same-length c = search needs
@@ -73,14 +94,22 @@ same-length-5 c = search needs
 returns : tie.Need-returns
 returns c =
     let s = stored c in
-    let x = crossed s in
-    let n = normed x in
+    let y = crossed s in
+    let n = normed y in
     let t = column-taken n in
     record {
       taken = t .take-column .ensures .1;
       answer-is =
-          judged-so (start t .args .tolerance) (start t .args .s) (c .judge .ensures) (c .before .grow .ensures)
-          (n .norm .ensures) (x .cross .ensures) (t .take-column .ensures .0);
+          let a = start t .args in
+          let x = t .take-column .last .1 .1 .1 .1 .1 .1 .1 .1 .1 .0 in
+          let w = t .take-column .last .1 .1 .1 .1 .1 .1 .1 .1 .0 in
+          subst
+          (λ (k : ℕ). c .judge .result
+          ≡ judgedHere (a .reading .restart) k (a .tolerance) (a .s) (a .u .now) (a .v .now) x w (a .row-flags .now))
+          (list-same t)
+          (judged-so (start t .args .reading .restart) _ _ (start t .args .tolerance) _ (start t .args .s) (c .judge .ensures)
+          (c .before .grow .ensures)
+          (n .norm .ensures) (y .cross .ensures) (t .take-column .ensures .0));
       us-are = s .store .ensures .0;
       vs-are = s .store .ensures .1;
     }

@@ -1,7 +1,9 @@
 -- `aca_steps::onward::advance` meets its contract: what it does in memory is one step of the rule. Assumes nothing.
 use borrow.Author.Needs.{needs}
 use mathlib.Core.Path.{sym, _∙_}
-use Rattle.aca_steps.proofs.OneStep.{row-fits, term-fits, stopped, went-on}
+use mathlib.Core.Bool.{true, false}
+use Rattle.common.proofs.Cases.{of-not}
+use Rattle.aca_steps.proofs.OneStep.{row-fits, place-in, term-fits, known, stopped, went-on}
 use Rattle.aca_steps.proofs.onward.advance.Statement.{statement}
 use Rattle.aca_steps.proofs.onward.advance.Tie as tie
 
@@ -13,10 +15,10 @@ abbrev pivoted : tie.After-accept → tie.Else1
 pivoted c = c .before .before .before .before .before .before .before .before
 
 abbrev row-taken' : tie.Else1 → tie.After-take-row
-row-taken' c = c .before .before .before .before .before .before
+row-taken' c = c .before .before .before .before .before .before .before
 
 abbrev row-taken : tie.Then1 → tie.After-take-row
-row-taken c = c .before .before .before .before .before .before
+row-taken c = c .before .before .before .before .before .before .before
 
 abbrev first : tie.After-take-row-arg6 → tie.Start
 first c = c .before .before .before .before .before .before .before .before .before .before .before .before .before
@@ -27,10 +29,23 @@ start c = first (c .before)
 take-row-requires : tie.Need-take-row-requires
 take-row-requires c κs =
     let s = first c in
-    row-fits (s .args .samples .now) (s .args .tolerance) (s .args .s) (s .args .read) _ _ _ (s .pre)
+    row-fits (s .args .samples .now) (s .args .tolerance) (s .args .reading) (s .args .s) _ _ _ (s .pre)
 
-is-none-requires : tie.Need-is-none-requires
-is-none-requires c κs = search needs
+is-usable-requires : tie.Need-is-usable-requires
+is-usable-requires c κs =
+    let t = c .before .before .before .before .before in
+    let r = t .take-row in
+    let s = start t in
+    place-in (s .args .samples .now) (s .args .tolerance) (s .args .reading) (s .args .s) _ _ _ (s .pre) _ _ _ _
+    (r .ensures .1 .0) (r .ensures .0) (r .ensures .1 .1 .0) (r .ensures .1 .1 .1)
+
+without-requires : tie.Need-without-requires
+without-requires c κs =
+    let t = row-taken (c .before) in
+    let r = t .take-row in
+    let s = start t in
+    known (s .args .samples .now) (s .args .tolerance) (s .args .reading) (s .args .s) _ _ _ (s .pre) _ _ _ _
+    (r .ensures .1 .0) (r .ensures .0) (r .ensures .1 .1 .0) (r .ensures .1 .1 .1)
 
 same-length : tie.Need-same-length
 same-length c = search needs
@@ -46,18 +61,23 @@ same-length-4 c = search needs
 
 returns : tie.Need-returns
 returns c =
-    let r = row-taken c .take-row in
-    let s = start (row-taken c) in
-    stopped (s .args .samples .now) (s .args .tolerance) (s .args .s) (s .args .read) _ _ _ (s .pre) _ _ _ _
-    (r .ensures .1 .0) (r .ensures .0) (r .ensures .1 .1 .0) (r .ensures .1 .1 .1) (sym (c .before .is-none .ensures) ∙ c .if1 .taken)
+    let i = c .before .before in
+    let r = row-taken i .take-row in
+    let s = start (row-taken i) in
+    stopped (s .args .samples .now) (s .args .tolerance) (s .args .reading) (s .args .s) _ _ _ (s .pre) _ _ _ _
+    (r .ensures .1 .0) (r .ensures .0) (r .ensures .1 .1 .0) (r .ensures .1 .1 .1) _
+    (sym (i .before .is-usable .ensures) ∙ of-not _ true (i .if1 .taken)) (c .without .ensures)
 
 accept-requires : tie.Need-accept-requires
 accept-requires c κs =
     let t = row-taken' (c .before .before .before .before .before .before .before) in
     let r = t .take-row in
-    let s = start t in
-    term-fits (s .args .samples .now) (s .args .tolerance) (s .args .s) (s .args .read) _ _ _ (s .pre) _ _ _ _
-    (r .ensures .1 .0) (r .ensures .0) (r .ensures .1 .1 .0) (r .ensures .1 .1 .1)
+    let s = start t in (
+      term-fits (s .args .samples .now) (s .args .tolerance) (s .args .reading) (s .args .s) _ _ _ (s .pre) _ _ _ _
+          (r .ensures .1 .0) (r .ensures .0) (r .ensures .1 .1 .0) (r .ensures .1 .1 .1),
+      known (s .args .samples .now) (s .args .tolerance) (s .args .reading) (s .args .s) _ _ _ (s .pre) _ _ _ _
+          (r .ensures .1 .0) (r .ensures .0) (r .ensures .1 .1 .0) (r .ensures .1 .1 .1),
+    )
 
 same-length-5 : tie.Need-same-length-5
 same-length-5 c = search needs
@@ -83,16 +103,17 @@ returns-2 c =
     let p = pivoted a in
     let r = row-taken' p .take-row in
     let s = start (row-taken' p) in
-    went-on (s .args .samples .now) (s .args .tolerance) (s .args .s) (s .args .read) _ _ _ (s .pre) _ _ _ _
+    went-on (s .args .samples .now) (s .args .tolerance) (s .args .reading) (s .args .s) _ _ _ (s .pre) _ _ _ _
     (r .ensures .1 .0) (r .ensures .0) (r .ensures .1 .1 .0) (r .ensures .1 .1 .1)
-    _ _ (a .accept .ensures) (sym (p .before .is-none .ensures) ∙ p .if1 .left)
+    _ _ (a .accept .ensures) (sym (p .before .is-usable .ensures) ∙ of-not _ false (p .if1 .left))
 
 pub advance-spec : {M : Type 1} → statement M
 advance-spec =
     tie.close
     (tie.spec
     take-row-requires
-    is-none-requires
+    is-usable-requires
+    without-requires
     same-length
     same-length-2
     same-length-3

@@ -38,12 +38,12 @@ module _ (s : tie.Start) where
 abbrev after : tie.After-aca-partial-pivoting → Memory
 after c =
     memory
-    (c .aca-partial-pivoting .last .1 .1 .1 .1 .0)
     (c .aca-partial-pivoting .last .1 .1 .1 .1 .1 .0)
     (c .aca-partial-pivoting .last .1 .1 .1 .1 .1 .1 .0)
     (c .aca-partial-pivoting .last .1 .1 .1 .1 .1 .1 .1 .0)
     (c .aca-partial-pivoting .last .1 .1 .1 .1 .1 .1 .1 .1 .0)
     (c .aca-partial-pivoting .last .1 .1 .1 .1 .1 .1 .1 .1 .1 .0)
+    (c .aca-partial-pivoting .last .1 .1 .1 .1 .1 .1 .1 .1 .1 .1 .0)
 
 unfit-number-requires : tie.Need-unfit-number-requires
 unfit-number-requires c κs = search needs
@@ -52,8 +52,8 @@ returns : tie.Need-returns
 returns c =
     let s = start' (c .before) in
     let a = s .args in
-    cross-unfit (a .rows) (a .columns) (a .samples .now) (a .epsilon) (lent s) (counts s) (estimate s) (c .unfit-number .result)
-    (c .unfit-number .ensures) (unfit-counts (counts s) (estimate s) (c .before .if1 .taken))
+    cross-unfit (a .rows) (a .columns) (a .samples .now) (a .epsilon) (a .restart) (lent s) (counts s) (estimate s)
+    (c .unfit-number .result) (c .unfit-number .ensures) (unfit-counts (counts s) (estimate s) (c .before .if1 .taken))
 
 unfit-number-requires-2 : tie.Need-unfit-number-requires-2
 unfit-number-requires-2 c κs = search needs
@@ -63,8 +63,8 @@ returns-2 c =
     let o = c .before .before in
     let s = start o in
     let a = s .args in
-    cross-unfit (a .rows) (a .columns) (a .samples .now) (a .epsilon) (lent s) (counts s) (estimate s) (c .unfit-number2 .result)
-    (c .unfit-number2 .ensures) (unfit-estimate (counts s) (estimate s) (o .if1 .left) (c .before .if2 .taken))
+    cross-unfit (a .rows) (a .columns) (a .samples .now) (a .epsilon) (a .restart) (lent s) (counts s) (estimate s)
+    (c .unfit-number2 .result) (c .unfit-number2 .ensures) (unfit-estimate (counts s) (estimate s) (o .if1 .left) (c .before .if2 .taken))
 
 aca-partial-pivoting-requires : tie.Need-aca-partial-pivoting-requires
 aca-partial-pivoting-requires c κs = search needs
@@ -104,7 +104,7 @@ returns-3 c =
     let s = start (f .before) in
     let a = s .args in
     let t = told .tell-report in
-    cross-fit (a .rows) (a .columns) (a .samples .now) (a .epsilon) (lent s) (counts s) (estimate s)
+    cross-fit (a .rows) (a .columns) (a .samples .now) (a .epsilon) (a .restart) (lent s) (counts s) (estimate s)
     (m .aca-partial-pivoting .result) (after m) (t .result) (t .last .1 .0) (t .last .1 .1 .0)
     (fit-both (counts s) (estimate s) (f .before .if1 .left) (f .if2 .left)) (m .aca-partial-pivoting .ensures) (t .ensures)
 

@@ -1,6 +1,6 @@
 /*
  * The operators behind the goaf gas maps, for C and C++: Chebyshev nodes and polynomials, transfer between a block and its
- * children, turning a block, points, square roots and distances, coefficients, cross approximation.
+ * children, turning a block, points, square roots and distances, coefficients, ratio maps, cross approximation.
  *
  * `rt staticlib bbfmm` proves the calls and writes target/staticlib/libbbfmm.a, for x86-64. The archive takes memcpy and memset
  * from the C library and nothing else. It allocates nothing and keeps nothing between calls.
@@ -46,7 +46,15 @@ enum {
     BBFMM_NO_CELL = 8,      /* a cell's length is not from 2^-20 to 2^30 */
     BBFMM_NOT_FINITE = 9,   /* a coordinate of a point or of the centre is not finite */
     BBFMM_NO_MASK = 10,     /* a byte of a mask is not 0 or 1 */
-    BBFMM_OUT_OF_CELL = 11  /* a reference coordinate of a point is above 1 + 2^-20 in size */
+    BBFMM_OUT_OF_CELL = 11, /* a reference coordinate of a point is above 1 + 2^-20 in size */
+    BBFMM_NO_FLOOR = 12     /* the floor of a ratio map is not a finite number above 0 */
+};
+
+/* What a ratio map answers at a point. */
+enum {
+    BBFMM_AIR_RATIO = 0,    /* the point has a ratio */
+    BBFMM_AIR_UNUSABLE = 1, /* unusable field: the deficiency or the ratio is not finite. It does not say what the air is like */
+    BBFMM_AIR_FRESH = 2     /* fresh air: the deficiency is below the floor, or even below 0, so that a ratio would tell nothing */
 };
 
 /* Why a cross approximation ended. The old mode answers 1, 2 or 3, and restart mode 1, 3 or 4. */
@@ -212,6 +220,33 @@ uint8_t bbfmm_get_approximation_coefficients(
     const double *node_polynomials, size_t node_polynomials_length, double *points, size_t points_length, double *values,
     size_t values_length, double *gradients, size_t gradients_length, double *factors, size_t factors_length, double *slopes,
     size_t slopes_length);
+
+/* RATIO MAPS */
+
+/*
+ * Graham's ratio, 100 * CO / (0.265 * N2 - O2), at points in a cell of this length, of which there are P = rows, at most 4,096.
+ * Each of the three gases is a local expansion, an entry a node. At a point a gas is the sum over the nodes of what the node counts
+ * for there times the node's entry, added up from +0.0 in the order of the nodes. The deficiency there, how much oxygen is missing,
+ * is (0.265*N2) - O2. Where it is below the floor nothing is divided by it. The floor is a finite number above 0, also where there
+ * are no points.
+ * centre: D entries.
+ * node_polynomials: p by p. Column k has T_k at the nodes.
+ * points: P by D, a row a point. They become reference coordinates, as bbfmm_get_approximation_coefficients leaves them.
+ * carbon_monoxide, nitrogen, oxygen: N entries each, the expansions of CO, N2 and O2.
+ * values: P by N. Column n becomes what node n counts for.
+ * factors: P by D * p, room to work in. They and the values become what that call leaves without gradients.
+ * answers: P entries. Each becomes a BBFMM_AIR. A deficiency that is not finite gives BBFMM_AIR_UNUSABLE. Then one below the floor
+ *     gives BBFMM_AIR_FRESH, whatever the carbon monoxide is. Then a ratio, (100*CO) / deficiency, that is not finite gives
+ *     BBFMM_AIR_UNUSABLE, and any other gives BBFMM_AIR_RATIO. So a deficiency that equals the floor can have a ratio.
+ * ratios: P entries. An entry whose answer is BBFMM_AIR_RATIO becomes the ratio; the others stay as lent.
+ * Refuses with 1, 2, 3, 7, 8, 9, 11, 12.
+ */
+uint8_t bbfmm_graham_ratios(
+    size_t dimension, size_t order, double length, size_t rows, double floor, const double *centre, size_t centre_length,
+    const double *node_polynomials, size_t node_polynomials_length, double *points, size_t points_length,
+    const double *carbon_monoxide, size_t carbon_monoxide_length, const double *nitrogen, size_t nitrogen_length,
+    const double *oxygen, size_t oxygen_length, double *values, size_t values_length, double *factors, size_t factors_length,
+    uint8_t *answers, size_t answers_length, double *ratios, size_t ratios_length);
 
 /* CHOICES */
 

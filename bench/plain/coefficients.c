@@ -76,27 +76,6 @@ static void fill_columns(
     }
 }
 
-static bool are_finite(const double *list, size_t count)
-{
-    bool are = true;
-    for (size_t i = 0; i < count; i++) {
-        are = are && list[i] - list[i] == 0;
-    }
-    return are;
-}
-
-/* Whether the points are in the cell on one axis: at most 1 + 2^-20 halves of the side from the centre. */
-static bool are_in_cell(const double *x, size_t rows, double side, double centre)
-{
-    const double border = 1 + 1.0 / 1048576;
-    bool are = true;
-    for (size_t i = 0; i < rows; i++) {
-        double at = (x[i] - centre) / (side * 0.5);
-        are &= (-border <= at) & (at <= border);
-    }
-    return are;
-}
-
 uint8_t plain_get_approximation_coefficients(
     size_t dimension, size_t order, double side, size_t rows, bool with_gradients, const double *restrict centre,
     size_t centre_length, const double *restrict node_polynomials, size_t node_polynomials_length, double *restrict points,
@@ -116,16 +95,9 @@ uint8_t plain_get_approximation_coefficients(
         factors_length != axes || slopes_length != (with_gradients ? axes : 0)) {
         return BBFMM_WRONG_LENGTH;
     }
-    if (!is_side(side)) {
-        return BBFMM_NO_CELL;
-    }
-    if (!are_finite(points, points_length) || !are_finite(centre, centre_length)) {
-        return BBFMM_NOT_FINITE;
-    }
-    for (size_t axis = 0; axis < dimension; axis++) {
-        if (!are_in_cell(points + axis * rows, rows, side, centre[axis])) {
-            return BBFMM_OUT_OF_CELL;
-        }
+    uint8_t refused = of_points(dimension, side, rows, centre, points);
+    if (refused != 0) {
+        return refused;
     }
     for (size_t axis = 0; axis < dimension; axis++) {
         double *x = points + axis * rows;

@@ -38,6 +38,12 @@ uint8_t plain_get_approximation_coefficients(
     size_t centre_length, const double *restrict node_polynomials, size_t node_polynomials_length, double *restrict points,
     size_t points_length, double *restrict values, size_t values_length, double *restrict gradients, size_t gradients_length,
     double *restrict factors, size_t factors_length, double *restrict slopes, size_t slopes_length);
+uint8_t plain_graham_ratios(
+    size_t dimension, size_t order, double side, size_t rows, double floor, const double *restrict centre, size_t centre_length,
+    const double *restrict node_polynomials, size_t node_polynomials_length, double *restrict points, size_t points_length,
+    const double *restrict carbon_monoxide, size_t carbon_monoxide_length, const double *restrict nitrogen, size_t nitrogen_length,
+    const double *restrict oxygen, size_t oxygen_length, double *restrict values, size_t values_length, double *restrict factors,
+    size_t factors_length, uint8_t *restrict answers, size_t answers_length, double *restrict ratios, size_t ratios_length);
 uint8_t plain_argmax_masked(
     const double *restrict entries, size_t entries_length, const uint8_t *restrict mask, size_t mask_length,
     size_t *restrict place, size_t place_length);
@@ -63,6 +69,49 @@ static inline uint8_t of_shape(size_t dimension, size_t order)
 static inline bool is_side(double side)
 {
     return side >= 0x1p-20 && side <= 0x1p30;
+}
+
+static inline bool is_finite(double x)
+{
+    return x - x == 0;
+}
+
+static inline bool are_finite(const double *list, size_t count)
+{
+    bool are = true;
+    for (size_t i = 0; i < count; i++) {
+        are = are && is_finite(list[i]);
+    }
+    return are;
+}
+
+/* Whether the points are in the cell on one axis: at most 1 + 2^-20 halves of the side from the centre. */
+static inline bool are_in_cell(const double *x, size_t rows, double side, double centre)
+{
+    const double border = 1 + 1.0 / 1048576;
+    bool are = true;
+    for (size_t i = 0; i < rows; i++) {
+        double at = (x[i] - centre) / (side * 0.5);
+        are &= (-border <= at) & (at <= border);
+    }
+    return are;
+}
+
+/* The number that a cell's side, its centre and the points bring; 0 is none. */
+static inline uint8_t of_points(size_t dimension, double side, size_t rows, const double *centre, const double *points)
+{
+    if (!is_side(side)) {
+        return BBFMM_NO_CELL;
+    }
+    if (!are_finite(points, dimension * rows) || !are_finite(centre, dimension)) {
+        return BBFMM_NOT_FINITE;
+    }
+    for (size_t axis = 0; axis < dimension; axis++) {
+        if (!are_in_cell(points + axis * rows, rows, side, centre[axis])) {
+            return BBFMM_OUT_OF_CELL;
+        }
+    }
+    return 0;
 }
 
 static inline size_t power(size_t base, size_t exponent)

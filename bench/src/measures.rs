@@ -5,6 +5,7 @@ mod cells;
 mod choices;
 mod distances;
 mod polynomials;
+mod ratios;
 mod turns;
 
 /// One call, ours and the text's: what it is given, and how many multiply-adds its rule needs, or stores or compares where
@@ -24,7 +25,7 @@ pub const SHAPES: [(usize, usize); SIZES] = [(1, 2), (2, 8), (3, 16)];
 
 pub type Make = fn(usize) -> Measure;
 
-pub const CALLS: [(&str, Make); 24] = [
+pub const CALLS: [(&str, Make); 25] = [
     ("generate_chebyshev_nodes", polynomials::nodes),
     ("evaluate_chebyshev_polynomials", polynomials::values),
     ("evaluate_chebyshev_polynomials, with derivatives", polynomials::derivatives),
@@ -45,6 +46,7 @@ pub const CALLS: [(&str, Make); 24] = [
     ("get_approximation_coefficients, with gradients", cells::gradients),
     ("get_approximation_coefficients, refused with 9 at the last coordinate", cells::not_finite),
     ("get_approximation_coefficients, refused with 11 at the last coordinate", cells::out_of_cell),
+    ("graham_ratios", ratios::graham_ratios),
     ("argmax_masked", choices::argmax),
     ("calculate_singular_values_cutoff", choices::cutoff),
     ("aca_partial_pivoting", choices::cross),

@@ -1,10 +1,11 @@
-//! Compares our programs with the Rust text on cases drawn from a seed, and stores nothing. Restart mode,
-//! which the text does not have, is compared with our own writing of its rule.
+//! Compares our programs with the Rust text on cases drawn from a seed, and stores nothing. Restart mode
+//! and Graham's ratio, which the text does not have, are compared with our own writing of their rules.
 
 mod blocks;
 mod calls;
 mod cases;
 mod draw;
+mod maps;
 mod programs;
 mod tally;
 

@@ -19,6 +19,8 @@ mod operators;
 mod points;
 mod polynomials;
 mod random;
+mod ratio_rule;
+mod ratios;
 mod replay;
 mod restart_rule;
 mod special_cells;

@@ -57,6 +57,7 @@ int main(void)
     test_points();
     test_distances();
     test_coefficients();
+    test_ratios();
     test_choices();
     test_aca();
     printf("C: %d passed, %d failed\n", passed, failed);

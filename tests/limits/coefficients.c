@@ -107,16 +107,6 @@ static Outcome get_approximation_coefficients(size_t k)
    on either side of that; the others lie at the centre, but for one that may be infinite or a NaN. */
 enum { POINTS = 3, BORDERS = 3 * 2 * 3 * 3 * POINTS * 2 * 3 * 3 };
 
-/* The float beside one that is not 0: the next larger in size, or the next smaller. */
-static double beside(double x, bool is_larger)
-{
-    uint64_t bits;
-    memcpy(&bits, &x, sizeof bits);
-    bits += is_larger ? 1 : (uint64_t)-1;
-    memcpy(&x, &bits, sizeof x);
-    return x;
-}
-
 static double bordering(size_t *k, double half)
 {
     double sign = take(k, 2) == 0 ? 1 : -1;

@@ -5,7 +5,7 @@ int printf(const char *format, ...);
 int memcmp(const void *left, const void *right, size_t bytes);
 void *memcpy(void *to, const void *from, size_t bytes);
 
-enum { HIGHEST = 11 };
+enum { HIGHEST = 12 };
 
 static size_t faults;
 
@@ -121,6 +121,15 @@ size_t lesser(size_t a, size_t b)
     return a < b ? a : b;
 }
 
+double beside(double x, bool is_larger)
+{
+    uint64_t bits;
+    memcpy(&bits, &x, sizeof bits);
+    bits += is_larger ? 1 : (uint64_t)-1;
+    memcpy(&x, &bits, sizeof x);
+    return x;
+}
+
 size_t dimension_at(size_t k)
 {
     return (size_t[]){0, 1, 2, 3, 4, (size_t)-1}[k];
@@ -189,6 +198,7 @@ int main(void)
     walk_points();
     walk_distances();
     walk_coefficients();
+    walk_ratios();
     walk_choices();
     walk_aca();
     return faults == 0 ? 0 : 1;

@@ -44,6 +44,8 @@ size_t product(size_t a, size_t b);
 /* An order to the power of a dimension. */
 size_t power(size_t dimension, size_t order);
 size_t lesser(size_t a, size_t b);
+/* The float beside one that is not 0: the next larger in size, or the next smaller. */
+double beside(double x, bool is_larger);
 
 /* Values about the limits. */
 size_t dimension_at(size_t k); /* 6 */
@@ -66,6 +68,7 @@ void walk_transfer(void);
 void walk_points(void);
 void walk_distances(void);
 void walk_coefficients(void);
+void walk_ratios(void);
 void walk_choices(void);
 void walk_aca(void);
 

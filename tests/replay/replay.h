@@ -37,6 +37,7 @@ void replay_chebyshev(Case c);
 void replay_transfer(Case c);
 void replay_points(Case c);
 void replay_coefficients(Case c);
+void replay_ratios(Case c);
 void replay_choices(Case c);
 void replay_aca(Case c);
 

@@ -198,6 +198,7 @@ static Answer *answer_of(const char *file)
         {"e03_sqrt", answer_e03_sqrt},
         {"e03_sampler", answer_e03_sampler},
         {"e04_cross", answer_e04_cross},
+        {"e05_ratio", answer_e05_ratio},
     };
     for (size_t i = 0; i < sizeof all / sizeof all[0]; i++) {
         if (strcmp(all[i].file, file) == 0) {

@@ -44,5 +44,6 @@ Answer answer_e02_node;
 Answer answer_e03_sqrt;
 Answer answer_e03_sampler;
 Answer answer_e04_cross;
+Answer answer_e05_ratio;
 
 #endif

@@ -7,12 +7,12 @@ use faer::MatRef;
 use ours::{Cell, Gradients};
 use std::hint::black_box;
 
-const POINTS: [usize; 3] = [1, 64, 4096];
+pub const POINTS: [usize; 3] = [1, 64, 4096];
 /// More of them, for calls that only test the points.
 const MANY: [usize; 3] = [16, 256, 4096];
 
 /// Products along the axes, and S of each axis; and the same again for each axis of a gradient.
-fn floor(dimension: usize, order: usize, rows: usize, with_gradients: bool) -> usize {
+pub fn floor(dimension: usize, order: usize, rows: usize, with_gradients: bool) -> usize {
     let nodes = order.pow(dimension as u32);
     let values = nodes * rows * (dimension - 1).max(1) + dimension * order * order * rows;
     if with_gradients {

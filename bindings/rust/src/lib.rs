@@ -1,6 +1,6 @@
 //! The operators of a black-box fast multipole method, from a library in which every call is proved
 //! to meet its contract: Chebyshev nodes and polynomials, transfer between a block and its
-//! children, turning a block, points, distances, coefficients, cross approximation.
+//! children, turning a block, points, distances, coefficients, Graham's ratio, cross approximation.
 //!
 //! Each function here is one call of the static library `libbbfmm.a`. It copies nothing, allocates
 //! nothing and keeps nothing between calls, so any thread may call it. It ends for every input,
@@ -44,6 +44,7 @@ mod choices;
 mod coefficients;
 mod distances;
 mod points;
+mod ratios;
 mod refusal;
 mod sys;
 mod transfer;
@@ -55,6 +56,7 @@ pub use choices::{argmax_masked, calculate_singular_values_cutoff};
 pub use coefficients::{Cell, Gradients, get_approximation_coefficients};
 pub use distances::{sample_distances, square_root};
 pub use points::{generate_chebyshev_source_points, generate_chebyshev_target_points};
+pub use ratios::{Air, Gases, graham_ratios};
 pub use refusal::Refusal;
 pub use transfer::{apply_cheb_tensor_transfer, get_m2m_transfer_operators};
 pub use turn::{

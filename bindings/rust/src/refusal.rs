@@ -44,11 +44,13 @@ pub enum Refusal {
     /// A point does not belong to the cell: one of its reference coordinates, (point - centre) /
     /// (length * 0.5), is above 1 + 2^-20 in size.
     OutOfCell = 11,
+    /// The floor of the oxygen deficiency is not finite and above 0.
+    NoFloor = 12,
 }
 
 impl Refusal {
     /// Every refusal, by rising number.
-    pub const ALL: [Refusal; 11] = [
+    pub const ALL: [Refusal; 12] = [
         Refusal::NoDimension,
         Refusal::NoOrder,
         Refusal::NoCount,
@@ -60,9 +62,10 @@ impl Refusal {
         Refusal::NotFinite,
         Refusal::NoMask,
         Refusal::OutOfCell,
+        Refusal::NoFloor,
     ];
 
-    /// The number of the refusal, from 1 to 11, as the library and its documents give it.
+    /// The number of the refusal, from 1 to 12, as the library and its documents give it.
     #[must_use]
     pub fn number(self) -> u8 {
         self as u8
@@ -82,6 +85,7 @@ impl Refusal {
             Refusal::NotFinite => "a coordinate is not finite",
             Refusal::NoMask => "a byte of the mask is not 0 or 1",
             Refusal::OutOfCell => "a point is out of the cell",
+            Refusal::NoFloor => "the floor is not finite and above 0",
         }
     }
 }
@@ -102,5 +106,5 @@ pub(crate) fn told(number: u8) -> Result<(), Refusal> {
     let place = usize::from(number) - 1;
     Err(*Refusal::ALL
         .get(place)
-        .expect("a libbbfmm.a of this version answers 0 to 11"))
+        .expect("a libbbfmm.a of this version answers 0 to 12"))
 }

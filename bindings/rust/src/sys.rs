@@ -16,6 +16,7 @@
 
 use crate::aca::Buffers;
 use crate::coefficients::Cell;
+use crate::ratios::Gases;
 
 unsafe extern "C" {
     fn bbfmm_follow_node(
@@ -158,6 +159,34 @@ unsafe extern "C" {
         factors_length: usize,
         slopes: *mut f64,
         slopes_length: usize,
+    ) -> u8;
+
+    fn bbfmm_graham_ratios(
+        dimension: usize,
+        order: usize,
+        length: f64,
+        rows: usize,
+        floor: f64,
+        centre: *const f64,
+        centre_length: usize,
+        node_polynomials: *const f64,
+        node_polynomials_length: usize,
+        points: *mut f64,
+        points_length: usize,
+        carbon_monoxide: *const f64,
+        carbon_monoxide_length: usize,
+        nitrogen: *const f64,
+        nitrogen_length: usize,
+        oxygen: *const f64,
+        oxygen_length: usize,
+        values: *mut f64,
+        values_length: usize,
+        factors: *mut f64,
+        factors_length: usize,
+        answers: *mut u8,
+        answers_length: usize,
+        ratios: *mut f64,
+        ratios_length: usize,
     ) -> u8;
 
     fn bbfmm_argmax_masked(
@@ -444,6 +473,52 @@ pub(crate) fn get_approximation_coefficients(
             factors.len(),
             slopes.as_mut_ptr(),
             slopes.len(),
+        )
+    }
+}
+
+#[expect(clippy::too_many_arguments, reason = "they are those of the call")]
+pub(crate) fn graham_ratios(
+    cell: Cell,
+    floor: f64,
+    centre: &[f64],
+    node_polynomials: &[f64],
+    points: &mut [f64],
+    gases: Gases<'_>,
+    values: &mut [f64],
+    factors: &mut [f64],
+    answers: &mut [u8],
+    ratios: &mut [f64],
+) -> u8 {
+    // SAFETY: ten slices by their pointers and lengths. The first two and the three of `gases` are
+    // only read and may be the same; the five others are borrowed mutably, so they overlap nothing.
+    unsafe {
+        bbfmm_graham_ratios(
+            cell.dimension,
+            cell.order,
+            cell.length,
+            cell.rows,
+            floor,
+            centre.as_ptr(),
+            centre.len(),
+            node_polynomials.as_ptr(),
+            node_polynomials.len(),
+            points.as_mut_ptr(),
+            points.len(),
+            gases.carbon_monoxide.as_ptr(),
+            gases.carbon_monoxide.len(),
+            gases.nitrogen.as_ptr(),
+            gases.nitrogen.len(),
+            gases.oxygen.as_ptr(),
+            gases.oxygen.len(),
+            values.as_mut_ptr(),
+            values.len(),
+            factors.as_mut_ptr(),
+            factors.len(),
+            answers.as_mut_ptr(),
+            answers.len(),
+            ratios.as_mut_ptr(),
+            ratios.len(),
         )
     }
 }

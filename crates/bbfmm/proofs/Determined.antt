@@ -18,6 +18,7 @@ use Rattle.roots.specs.Values.{SquareRoot}
 use Rattle.roots.proofs.Determined.{square-root-determined}
 use Rattle.distances.specs.Distances as distances
 use Rattle.coefficients.specs.Coefficients as coefficients
+use Rattle.ratios.specs.Ratios as ratios
 use Rattle.aca_steps.specs.Memories.{Memory}
 use Rattle.bbfmm.specs.Told.{lookUpTold, followTold, referenceTold, argmaxTold, cutoffTold, Crossed, crossTold}
 
@@ -101,6 +102,14 @@ module _ (dimension order rows : ℕ) (side : Float) (with : Bool) (centre polyn
       r' ≡ coefficients.coefficientsCall dimension order rows side with centre polynomials lent → r ≡ r'
   bbfmm-get-approximation-coefficients-determined = coincide r r' (coefficients.coefficientsCall dimension order rows side with centre
       polynomials lent)
+
+module _ (dimension order rows : ℕ) (side floor : Float) (centre polynomials carbonMonoxide nitrogen oxygen : List Float)
+    (lent : ratios.Memory) (r r' : ℕ × ratios.Memory) where
+  bbfmm-graham-ratios-determined : r ≡ ratios.ratiosCall dimension order rows side floor centre polynomials carbonMonoxide nitrogen oxygen
+      lent →
+      r' ≡ ratios.ratiosCall dimension order rows side floor centre polynomials carbonMonoxide nitrogen oxygen lent → r ≡ r'
+  bbfmm-graham-ratios-determined =
+      coincide r r' (ratios.ratiosCall dimension order rows side floor centre polynomials carbonMonoxide nitrogen oxygen lent)
 
 -- CHOICES AND CROSS APPROXIMATION
 

@@ -6,5 +6,6 @@ mod choices_calls;
 mod coefficients_calls;
 mod distances_calls;
 mod points_calls;
+mod ratios_calls;
 mod transfer_calls;
 mod turn_calls;

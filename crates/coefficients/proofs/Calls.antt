@@ -69,13 +69,21 @@ module _ (D p P : ℕ) (with : Bool) (lent : Lengths) where
 
 -- THE CALL
 
-module _ (D p P : ℕ) (side : Float) (with : Bool) (centre t x v g f d : List Float) (r : ℕ)
-    (e : r ≡ coefficientsNumber D p P side centre x (lengthsFit D p P with (lengths centre t (x, v, g, f, d)))) where
-  pub coefficients-refused : (r ≡ 0 → ⊥) → (r, (x, v, g, f, d)) ≡ coefficientsCall D p P side with centre t (x, v, g, f, d)
+module _ (D p P : ℕ) (side : Float) (with : Bool) (centre t x v g f d : List Float) where
+  -- not refused: the lengths are as stated
+  pub call-admitted : coefficientsCall D p P side with centre t (x, v, g, f, d) .0 ≡ 0 →
+      Admitted D p P with (lengths centre t (x, v, g, f, d))
   unfolding coefficientsCall
-  coefficients-refused = call-refused r _ (leaves D p P side with t (coordinate P side centre x)) (x, v, g, f, d) e
+  call-admitted z =
+      let h = number-taken D p P side centre x (lengthsFit D p P with (lengths centre t (x, v, g, f, d))) z in
+      admitted D p P with (lengths centre t (x, v, g, f, d)) (h .0) (h .1) (h .2)
 
-  pub coefficients-done : (m : Memory) → r ≡ 0 → m ≡ leaves D p P side with t (coordinate P side centre x) →
-      (0, m) ≡ coefficientsCall D p P side with centre t (x, v, g, f, d)
-  unfolding coefficientsCall
-  coefficients-done m = call-done r _ (leaves D p P side with t (coordinate P side centre x)) (x, v, g, f, d) e m
+  module _ (r : ℕ) (e : r ≡ coefficientsCall D p P side with centre t (x, v, g, f, d) .0) where
+    pub coefficients-refused : (r ≡ 0 → ⊥) → (r, (x, v, g, f, d)) ≡ coefficientsCall D p P side with centre t (x, v, g, f, d)
+    unfolding coefficientsCall
+    coefficients-refused = call-refused r _ (leaves D p P side with t (coordinate P side centre x)) (x, v, g, f, d) e
+
+    pub coefficients-done : (m : Memory) → r ≡ 0 → m ≡ leaves D p P side with t (coordinate P side centre x) →
+        (0, m) ≡ coefficientsCall D p P side with centre t (x, v, g, f, d)
+    unfolding coefficientsCall
+    coefficients-done m = call-done r _ (leaves D p P side with t (coordinate P side centre x)) (x, v, g, f, d) e m

@@ -3,7 +3,6 @@ ghost use mathlib.Core.Path.{_≡_};
 ghost use Rattle.coordinates.specs.Coordinates.{coordinate};
 ghost use Rattle.coefficients.specs.Coefficients.{lengths, leaves, coefficientsCall};
 ghost use Rattle.coefficients.specs.Working.{Admitted};
-use crate::Lengths;
 use crate::columns::fill_gradients;
 use crate::columns::fill_started;
 use crate::limits::coefficients_number;
@@ -62,16 +61,17 @@ pub fn get_approximation_coefficients(
         (now («node_polynomials» .entry))
         (now (points .entry), now (values .entry), now (gradients .entry), now (factors .entry), now (slopes .entry)) ⌝ }
 {
-    let lent = Lengths {
-        points: points.len(),
-        centre: centre.len(),
-        polynomials: node_polynomials.len(),
-        values: values.len(),
-        gradients: gradients.len(),
-        factors: factors.len(),
-        slopes: slopes.len(),
-    };
-    let refused = coefficients_number(cell, with_gradients, centre, points, lent);
+    let refused = coefficients_number(
+        cell,
+        with_gradients,
+        centre,
+        node_polynomials,
+        points,
+        values,
+        gradients,
+        factors,
+        slopes,
+    );
     if refused != 0 {
         return refused;
     }

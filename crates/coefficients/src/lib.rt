@@ -5,6 +5,7 @@ mod limits;
 
 pub use axes::Cell;
 pub use call::get_approximation_coefficients;
+pub use limits::coefficients_number;
 
 // The lengths of the lent buffers.
 pub struct Lengths {

@@ -3,7 +3,7 @@ ghost use mathlib.Core.Path.{_≡_};
 ghost use Prim.Native.Nat.{_≤_};
 ghost use lib.ListN.{length};
 ghost use Rattle.common.specs.Refusals.{Shape, mostPoints};
-ghost use Rattle.coefficients.specs.Coefficients.{lengthsFit, coefficientsNumber};
+ghost use Rattle.coefficients.specs.Coefficients.{lengthsFit, coefficientsNumber, coefficientsCall};
 use crate::Lengths;
 use axes::Cell;
 use coordinates::points_number;
@@ -41,8 +41,8 @@ fn lengths_fit(
     lent.slopes == common::size_if(with_gradients, columns * rows)
 }
 
-// The lowest refusal, or 0.
-pub(crate) fn coefficients_number(
+// The lowest refusal, or 0, with the buffers' lengths.
+fn lowest_number(
     cell: Cell,
     with_gradients: bool,
     centre: &[f64],
@@ -68,4 +68,33 @@ pub(crate) fn coefficients_number(
         return common::WRONG_LENGTH;
     }
     points_number(dimension, rows, cell.side, centre, points)
+}
+
+// The number that the call for approximation coefficients would answer: it tests, and writes nothing.
+pub fn coefficients_number(
+    cell: Cell,
+    with_gradients: bool,
+    centre: &[f64],
+    node_polynomials: &[f64],
+    points: &[f64],
+    values: &[f64],
+    gradients: &[f64],
+    factors: &[f64],
+    slopes: &[f64],
+) -> u8
+    ensures { λ r. ⌜ r ≡
+        coefficientsCall (cell .dimension) (cell .order) (cell .rows) (cell .side) «with_gradients» (now (centre .entry))
+        (now («node_polynomials» .entry))
+        (now (points .entry), now (values .entry), now (gradients .entry), now (factors .entry), now (slopes .entry)) .0 ⌝ }
+{
+    let lent = Lengths {
+        points: points.len(),
+        centre: centre.len(),
+        polynomials: node_polynomials.len(),
+        values: values.len(),
+        gradients: gradients.len(),
+        factors: factors.len(),
+        slopes: slopes.len(),
+    };
+    lowest_number(cell, with_gradients, centre, points, lent)
 }

@@ -1,15 +1,17 @@
 -- The order of floats: below is transitive; and of two floats, one below the other, any third that is no NaN is above the one or below
--- the other. Infinities and both zeros are included. Assumes nothing.
+-- the other; and of two finite floats, one that is not below the other is at least that. Infinities and both zeros are included. Assumes
+-- nothing.
 use mathlib.Core.Path.{_≡_, refl, sym, _∙_}
-use mathlib.Core.Bool.{Bool, true, false, true≢false}
+use mathlib.Core.Bool.{Bool, true, false, _||_, true≢false}
 use Prim.Native.Nat.{ℕ, _+_, _*_, _<_}
 use native.Mathlib.Nat.{zero-mul, mul-right-comm, mul-lt-mul-of-pos-right, mul-le-mul-right, add-mul}
 use native.Mathlib.Omega.{arith}
 use lib.Dec.{ltb}
 use lib.IntN.{ℤ}
-use lib.Ieee.{Float, nan, inf, fin, up, down, below, lt, isNan}
+use lib.Ieee.{Float, nan, inf, fin, up, down, below, level, lt, eq, le, isNan}
 use lib.Ieee.Fits.{down-pos}
-use borrow.Author.Tests.{ltb-true, ltb-false, lt-ltb, le-ltb}
+use lib.Ieee.Scale.{finite}
+use borrow.Author.Tests.{ltb-true, ltb-false, lt-ltb, le-ltb, eq-eqb}
 use Rattle.common.proofs.Cases.{by-lt}
 
 never : {A : Type 0} → true ≡ false → A
@@ -133,3 +135,31 @@ lt-self (inf true) = refl
 lt-self (inf false) = refl
 lt-self (fin true m e) = le-ltb (m * up e * down e) (m * up e * down e) (omega arith)
 lt-self (fin false m e) = le-ltb (m * up e * down e) (m * up e * down e) (omega arith)
+
+-- NOT BELOW is at least
+
+either : (t : Bool) → (t || true) ≡ true
+either true = refl
+either false = refl
+
+not-below : (s t : Bool) (a b : ℕ) → below s a t b ≡ false → (below t b s a || level t b s a) ≡ true
+not-below false false a b h =
+    by-lt b a (λ l e. rw e) (λ l e. let same : b ≡ a = omega (arith, ltb-false a b h) in rw (eq-eqb b a same) (either (ltb b a)))
+not-below false true a b h =
+    by-lt 0 (b + a) (λ l e. rw e)
+    (λ l e. let b₀ : b ≡ 0 = omega arith in let a₀ : a ≡ 0 = omega arith in rw (b₀, a₀))
+not-below true false a b h =
+    let none = ltb-false 0 (a + b) h in
+    let b₀ : b ≡ 0 = omega (arith, none) in
+    let a₀ : a ≡ 0 = omega (arith, none) in
+    rw (b₀, a₀)
+not-below true true a b h =
+    by-lt a b (λ l e. rw e) (λ l e. let same : b ≡ a = omega (arith, ltb-false b a h) in rw (eq-eqb b a same) (either (ltb a b)))
+
+pub at-least : (x y : Float) → finite x ≡ true → finite y ≡ true → lt x y ≡ false → le y x ≡ true
+unfolding lt le eq
+at-least nan y h k e = never (sym h)
+at-least (inf s) y h k e = never (sym h)
+at-least (fin s m e) nan h k l = never (sym k)
+at-least (fin s m e) (inf t) h k l = never (sym k)
+at-least (fin s m e) (fin t n d) h k l = not-below s t (m * up e * down d) (n * up d * down e) l

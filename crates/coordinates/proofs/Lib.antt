@@ -1,4 +1,3 @@
-pub mod Finite
 pub mod InCell
 pub mod Numbers
 pub mod Steps

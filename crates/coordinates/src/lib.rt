@@ -2,7 +2,6 @@
 ghost use mathlib.Core.Path.{_≡_};
 ghost use Prim.Native.Nat.{_+_, _*_, _≤_};
 ghost use lib.Ieee.{nan};
-ghost use lib.Ieee.Scale.{finite};
 ghost use lib.ListN.{length, getD};
 ghost use Rattle.common.specs.Lists.{stretch};
 ghost use Rattle.common.specs.Matrices.{columnMajor};
@@ -16,25 +15,12 @@ struct Reference(f64);
 // The largest size of a reference coordinate in the cell, 1 + 2^-20: a point on the cell's face may scale to a little more than 1.
 const BORDER: f64 = 1.00000095367431640625;
 
-// Neither infinite nor a NaN, for which both tests fail.
-fn is_finite(x: Physical) -> bool
-    ensures { λ r. ⌜ r ≡ finite (x .0) ⌝ }
-{
-    let top = 1.0 / 0.0;
-    if -top < x.0 {
-        if x.0 < top {
-            return true;
-        }
-    }
-    false
-}
-
 pub fn all_finite(list: &[f64]) -> bool
     ensures { λ r. ⌜ r ≡ allFinite (now (list .entry)) ⌝ }
 {
     let mut i = 0;
     while i < list.len() {
-        if !is_finite(Physical(list[i])) {
+        if !common::is_finite(list[i]) {
             return false;
         }
         i += 1;

@@ -3,13 +3,15 @@ use mathlib.Core.Path.{refl}
 use lib.Count.{trailingZeros}
 use lib.Ieee.{add, sub, mul, div, neg, lt, eq, le, ofInt, ofBits, ofFields, odd, units, round, sum, size as digits, span, climb}
 use Rattle.common.specs.Floats.{size, sums}
-use Rattle.common.specs.Refusals.{isCell, left}
+use Rattle.common.specs.Refusals.{isCell, left, lower}
 use Rattle.common.specs.Digits.{digit}
 use Rattle.common.specs.Tests.{each, any, lowest, those}
 use Rattle.vectors.specs.Vectors.{isReference, references, entry}
 use Rattle.roots.specs.Values.{floorRoot, nearestRoot, root}
 use Rattle.distances.specs.Distances.{added}
 use Rattle.coordinates.specs.Coordinates.{allFinite, coordinateIn, inCell, allInCell, pointsNumber}
+use Rattle.coefficients.specs.Coefficients.{coefficientsNumber, coefficientsCall, lengthsFit}
+use Rattle.ratios.specs.Ratios as ratios
 use Rattle.aca_lines.specs.Largest.{best, argmax, pivot}
 use Rattle.aca_lines.specs.Lines.{residual, multiplied, norm, cross}
 use Rattle.aca_steps.specs.Crosses.{unread, rowRead, columnRead, grown, weighed, stored, elsewhere, onward, without, usable, judged}
@@ -22,6 +24,8 @@ pub requested : Requested
 unfolding size isCell each allFinite coordinateIn inCell allInCell pointsNumber floorRoot nearestRoot root added digit references entry
     isReference those sums best argmax pivot residual multiplied norm cross any lowest unread rowRead columnRead grown weighed stored
     elsewhere onward without usable judged accepted tried step followed run report laid fits acaNumber approximation acaCall left
+    lengthsFit coefficientsNumber coefficientsCall lower ratios.deficiency ratios.ratio ratios.airOf ratios.isFloor ratios.floorNumber
+    ratios.lengthsFit ratios.lengthsNumber ratios.orLast ratios.ratiosNumber ratios.ratiosCall
     trailingZeros add sub mul div neg lt eq le ofInt ofBits ofFields odd units round sum digits span climb
 requested =
     record {
@@ -44,4 +48,13 @@ requested =
       nan-restarted = λ x i. refl;
       nan-old = λ x i. refl;
       seven-squared = λ x i. refl;
+      goaf-ratio = refl;
+      fresh-ratio = refl;
+      fresh-none = refl;
+      at-floor = refl;
+      below-floor = refl;
+      no-deficiency = refl;
+      no-ratio = refl;
+      no-floor = λ x. refl;
+      cell-first = λ x i. refl;
     }

@@ -9,6 +9,8 @@ use Rattle.common.specs.Floats.{float, zero₆₄, one₆₄, two₆₄, half�
 use Rattle.coordinates.specs.Coordinates.{pointsNumber}
 use Rattle.roots.specs.Values.{root}
 use Rattle.distances.specs.Distances.{sample}
+use Rattle.ratios.specs.Ratios.{airOf, ratiosCall}
+use Rattle.ratios.specs.declared.air.Air.the-variants.{Ratio, Unusable, Fresh}
 use Rattle.aca_steps.specs.Memories.{memory}
 use Rattle.aca.specs.Runs.{call, acaCall}
 use Rattle.fixed.specs.Results.{two, four, lent}
@@ -19,6 +21,21 @@ border = ofBits binary64 0x3ff0000100000000
 
 abbrev pub beyond : Float
 beyond = ofBits binary64 0x3ff0000100000001
+
+-- readings of docs/EVIDENCE.md, in per cent: nitrogen, oxygen and carbon monoxide in the old goaf and in fresh air; and two floors,
+-- 1/10 and a millionth
+module _ {A : Type 0} (f : (carbonMonoxide nitrogen oxygen : Float) → A) where
+  abbrev pub oldGoaf : A
+  oldGoaf = f (ofBits binary64 0x3f789374bc6a7efa) (float 86) (ofBits binary64 0x4023947ae147ae14)
+
+  abbrev pub freshAir : A
+  freshAir = f (ofBits binary64 0x3f1a36e2eb1c432d) (ofBits binary64 0x4053c28f5c28f5c3) (ofBits binary64 0x4034ee147ae147ae)
+
+abbrev pub tenth : Float
+tenth = ofBits binary64 0x3fb999999999999a
+
+abbrev pub millionth : Float
+millionth = ofBits binary64 0x3eb0c6f7a0b5ed8d
 
 pub record Requested : Type 0 where
   -- E1: in a cell of side 2 about 0, a point at 1 + 2 ^ -20 passes, on either side; at the next float it is refused with 11
@@ -64,3 +81,19 @@ pub record Requested : Type 0 where
       ≡ call (0, some (record { rank = 1; estimate = ofBits binary64 0x40a2c1ffffffffff; stop = 4; «rows_read» = 2 }))
       (memory (four (float 49) zero₆₄ x x) (four (ofBits binary64 0x3fefffffffffffff) zero₆₄ x x) (two 0 1) (two 0 i)
       (two zero₆₄ zero₆₄) (two (float 49) zero₆₄))
+  -- E5: the old goaf has a ratio, 0.046; fresh air has one, 0.641, over a floor near 0, and none over a floor of 1/10
+  pub goaf-ratio : oldGoaf (airOf tenth) ≡ Ratio (ofBits binary64 0x3fa7a17a17a17a16)
+  pub fresh-ratio : freshAir (airOf millionth) ≡ Ratio (ofBits binary64 0x3fe4834834834445)
+  pub fresh-none : freshAir (airOf tenth) ≡ Fresh
+  -- a deficiency that equals the floor has a ratio; one below it is fresh air, whatever the carbon monoxide is
+  pub at-floor : airOf one₆₄ one₆₄ zero₆₄ (neg one₆₄) ≡ Ratio (float 100)
+  pub below-floor : airOf (ofBits binary64 0x3ff0000000000001) nan zero₆₄ (neg one₆₄) ≡ Fresh
+  -- a deficiency or a ratio that is not finite is an unusable field
+  pub no-deficiency : airOf one₆₄ one₆₄ nan zero₆₄ ≡ Unusable
+  pub no-ratio : airOf one₆₄ (inf false) zero₆₄ (neg one₆₄) ≡ Unusable
+  -- a floor of 0 is refused with 12, with no point too; and with 11 where a point is out of its cell
+  pub no-floor : (x : Float) →
+      ratiosCall 1 1 0 two₆₄ zero₆₄ (zero₆₄ ∷ []) (x ∷ []) (x ∷ []) (x ∷ []) (x ∷ []) ([], [], [], [], []) ≡ (12, ([], [], [], [], []))
+  pub cell-first : (x : Float) (i : ℕ) →
+      ratiosCall 1 1 1 two₆₄ zero₆₄ (zero₆₄ ∷ []) (x ∷ []) (x ∷ []) (x ∷ []) (x ∷ []) (beyond ∷ [], x ∷ [], x ∷ [], i ∷ [], x ∷ [])
+      ≡ (11, (beyond ∷ [], x ∷ [], x ∷ [], i ∷ [], x ∷ []))

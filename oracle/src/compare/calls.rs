@@ -1,6 +1,6 @@
 //! Names the calls whose cases are drawn.
 
-use super::{blocks, cases};
+use super::{blocks, cases, maps};
 use crate::floats::Stream;
 use crate::random::Random;
 
@@ -20,13 +20,17 @@ pub enum Call {
     Cross,
     Restart,
     Spoilt,
+    Ratios,
+    Air,
 }
 
 /// Each call, the name that its cases are counted under, and what the count is divided by for it.
 ///
 /// A call that is asked in two ways has half of the cases for each, and the coefficients half of that,
-/// since the program clears megabytes before each of them.
-pub const CALLS: [(Call, &str, usize); 14] = [
+/// since the program clears megabytes before each of them; and so have the ratios, which are made of them.
+///
+/// A new call stands last, so that a seed still draws the same for the others.
+pub const CALLS: [(Call, &str, usize); 16] = [
     (Call::Polynomials, "polynomials", 2),
     (Call::Derivatives, "polynomials with derivatives", 2),
     (Call::Operators, "operators", 1),
@@ -41,6 +45,8 @@ pub const CALLS: [(Call, &str, usize); 14] = [
     (Call::Cross, "cross approximation", 1),
     (Call::Restart, "restart mode, the same blocks", 1),
     (Call::Spoilt, "restart mode, spoilt rows", 1),
+    (Call::Ratios, "ratios, gases of any floats", 4),
+    (Call::Air, "ratios, air about the floor", 4),
 ];
 
 impl Call {
@@ -49,7 +55,8 @@ impl Call {
         matches!(self, Self::Restart)
     }
 
-    /// Draws a case, and adds it with the answer of the text, or in restart mode of our own rule.
+    /// Draws a case, and adds it with the answer of the text, or in restart mode and for ratios of our own
+    /// rule.
     pub fn ask(self, random: &mut Random, stream: &mut Stream) -> Result<(), String> {
         match self {
             Self::Polynomials => cases::polynomials(random, stream, false),
@@ -66,6 +73,8 @@ impl Call {
             Self::Cross => blocks::ask(random, stream)?,
             Self::Restart => blocks::ask_restart(random, stream)?,
             Self::Spoilt => blocks::ask_spoilt(random, stream)?,
+            Self::Ratios => maps::any(random, stream),
+            Self::Air => maps::air(random, stream),
         }
         Ok(())
     }

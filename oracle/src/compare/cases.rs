@@ -10,7 +10,7 @@ use crate::transfers::ask_transfer;
 use crate::{coefficients, operators};
 use oracle::chebyshev::reach::{Block, Cell};
 
-/// The most points of a call, the most coefficients that the replay has room for, and the most
+/// The most coefficients that the replay has room for, and the most entries of a list.
 const MOST_VALUES: usize = 65536;
 const MOST_ENTRIES: usize = 1024;
 
@@ -76,7 +76,8 @@ fn points(random: &mut Random, centre: &[f64], length: f64, rows: usize) -> Vec<
     points
 }
 
-pub fn coefficients(random: &mut Random, stream: &mut Stream, with_gradients: bool) {
+/// A cell with points, of which the replay has room for all coefficients.
+pub fn cell(random: &mut Random, with_gradients: bool) -> Cell {
     let dimension = draw::dimension(random);
     let order = draw::order(random, dimension);
     let nodes = order.pow(dimension as u32);
@@ -84,7 +85,7 @@ pub fn coefficients(random: &mut Random, stream: &mut Stream, with_gradients: bo
     let rows = draw::size(random, most);
     let length = draw::length(random);
     let centre = draw::finite_floats(random, dimension);
-    let cell = Cell {
+    Cell {
         dimension,
         order,
         with_gradients,
@@ -92,8 +93,11 @@ pub fn coefficients(random: &mut Random, stream: &mut Stream, with_gradients: bo
         points: points(random, &centre, length, rows),
         centre,
         node_polynomials: draw::nodes(random, order).1,
-    };
-    coefficients::ask(stream, &cell);
+    }
+}
+
+pub fn coefficients(random: &mut Random, stream: &mut Stream, with_gradients: bool) {
+    coefficients::ask(stream, &cell(random, with_gradients));
 }
 
 /// A mask of ones only, of zeros only, of as many of each, or of few ones.

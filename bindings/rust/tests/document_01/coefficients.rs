@@ -29,7 +29,7 @@ fn call(
 
 /// Points about the middle of a cell, axis by axis. Far from 0 the sum rounds, and may leave the
 /// cell.
-fn points(draw: &mut Draw, cell: Cell, centre: &[f64], count: usize) -> Vec<f64> {
+pub fn points(draw: &mut Draw, cell: Cell, centre: &[f64], count: usize) -> Vec<f64> {
     let mut point = |place: usize| {
         let middle = centre.get(place / cell.rows.max(1)).unwrap_or(&0.0);
         middle + draw.offset() * (cell.length * 0.5)

@@ -126,6 +126,11 @@ impl Draw {
         }
     }
 
+    /// A float from -1 to 1.
+    pub fn unit(&mut self) -> f64 {
+        self.float(1)
+    }
+
     /// Floats of one sort, which is drawn too; or of all sorts.
     pub fn floats(&mut self, count: usize) -> Vec<f64> {
         let all = self.one_in(9);
@@ -170,6 +175,12 @@ impl Draw {
         (0..length).map(|_| self.next() as u16).collect()
     }
 
+    /// Bytes for a list that is lent, now and then of another length.
+    pub fn lent_bytes(&mut self, right: usize) -> Vec<u8> {
+        let length = self.length(right);
+        (0..length).map(|_| self.next() as u8).collect()
+    }
+
     /// A cell's length: an end of the limits, any between, and now and then any float or one just
     /// outside.
     pub fn cell_length(&mut self) -> f64 {
@@ -181,6 +192,20 @@ impl Draw {
         match self.below(8) {
             0 => self.one_of(&[least, least.next_up(), most.next_down(), most]),
             _ => (1.0 + self.float(1).abs()) * 2f64.powi(self.below(50) as i32 - 20),
+        }
+    }
+
+    /// A floor of the deficiency: one that a caller would give, or any that is finite and above 0; and
+    /// now and then one that is not.
+    pub fn floor(&mut self) -> f64 {
+        let any = self.floats(1)[0].abs();
+        if self.is_fault(ONE_OUTSIDE) {
+            return self.one_of(&[0.0, -0.0, -5e-324, -any, f64::INFINITY, f64::NAN]);
+        }
+        match self.below(4) {
+            0 => self.one_of(&[5e-324, f64::MIN_POSITIVE, f64::MAX]),
+            1 if any.is_finite() && any > 0.0 => any,
+            _ => self.one_of(&[1e-6, 0.01, 0.1, 0.5, 13.0]),
         }
     }
 

@@ -13,6 +13,7 @@ mod draw;
 mod fixed;
 mod held;
 mod points;
+mod ratios;
 mod roots;
 mod rule;
 mod transfer;

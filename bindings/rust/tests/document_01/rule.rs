@@ -7,6 +7,7 @@ pub mod coefficients;
 pub mod cross;
 pub mod distances;
 pub mod points;
+pub mod ratios;
 pub mod roots;
 pub mod transfer;
 pub mod turn;

@@ -24,11 +24,11 @@ loop-holds : tie.Need-loop-holds Inv-loop μ-loop
 unfolding each
 loop-holds c = (omega arith, refl)
 
-mul-t3 : tie.Need-mul-t3 Inv-loop μ-loop
-mul-t3 c = search needs
+mul-is-finite : tie.Need-mul-is-finite Inv-loop μ-loop
+mul-is-finite c = search needs
 
-shared-slice-read-t6 : tie.Need-shared-slice-read-t6 Inv-loop μ-loop
-shared-slice-read-t6 c = search needs
+shared-slice-read-is-finite : tie.Need-shared-slice-read-is-finite Inv-loop μ-loop
+shared-slice-read-is-finite c = search needs
 
 is-finite-requires : tie.Need-is-finite-requires Inv-loop μ-loop
 is-finite-requires c κs = search needs
@@ -68,8 +68,8 @@ all-finite-spec =
     Inv-loop
     μ-loop
     loop-holds
-    mul-t3
-    shared-slice-read-t6
+    mul-is-finite
+    shared-slice-read-is-finite
     is-finite-requires
     returns
     add-i

@@ -1,0 +1,29 @@
+-- `ratios::air::number_of` meets its contract, arm by arm. Assumes nothing.
+use borrow.Author.Needs.{needs}
+use Rattle.ratios.specs.Ratios.{numberOf}
+use Rattle.ratios.proofs.air.number_of.Statement.{statement}
+use Rattle.ratios.proofs.air.number_of.Tie as tie
+
+enum-told : tie.Need-enum-told
+enum-told c = search needs
+
+enum-told-2 : tie.Need-enum-told-2
+enum-told-2 c = search needs
+
+enum-told-3 : tie.Need-enum-told-3
+enum-told-3 c = search needs
+
+returns : tie.Need-returns
+unfolding numberOf
+returns c = search needs
+
+returns-2 : tie.Need-returns-2
+unfolding numberOf
+returns-2 c = search needs
+
+returns-3 : tie.Need-returns-3
+unfolding numberOf
+returns-3 c = search needs
+
+pub number-of-spec : {M : Type 1} → statement M
+number-of-spec = tie.close (tie.spec enum-told enum-told-2 enum-told-3 returns returns-2 returns-3)

@@ -1,16 +1,17 @@
 /*
  * The operators behind the goaf gas maps, for C and C++: Chebyshev nodes and polynomials, transfer between a block and its
- * children, turning a block, points, square roots and distances, coefficients, ratio maps, cross approximation.
+ * children, turning a block, points, square roots and distances, coefficients, ratio maps, blocks as Matrix Market texts, cross
+ * approximation.
  *
  * `rt staticlib bbfmm` proves the calls and writes target/staticlib/libbbfmm.a, for x86-64. The archive takes memcpy and memset
  * from the C library and nothing else. It allocates nothing and keeps nothing between calls.
  *
  * NUMBERS. Every call answers BBFMM_DONE or the number of a refusal; bbfmm_square_root alone refuses nothing and answers a float.
- * After a refusal every lent buffer is as it came. With several faults the lowest number is given. Each call ends, whatever it is
- * given.
+ * After a refusal every lent buffer is as it came. With several faults the lowest number is given; the calls on texts have an order of
+ * their own, by lines, and answer a line too. Each call ends, whatever it is given.
  *
  * BUFFERS. A buffer is two arguments: a pointer to its first entry, and how many entries it has. A const buffer is only read. The
- * lengths below are exact: any other is refused with BBFMM_WRONG_LENGTH. What no call can test, the caller sees to: a pointer is
+ * lengths below are exact, but for texts: any other is refused with BBFMM_WRONG_LENGTH. What no call can test, the caller sees to: a pointer is
  * not null, even where the length is 0, is aligned for its type, and has so many entries behind it; no buffer that is written
  * overlaps another of the call; a bool is true or false.
  *
@@ -47,8 +48,17 @@ enum {
     BBFMM_NOT_FINITE = 9,   /* a coordinate of a point or of the centre is not finite */
     BBFMM_NO_MASK = 10,     /* a byte of a mask is not 0 or 1 */
     BBFMM_OUT_OF_CELL = 11, /* a reference coordinate of a point is above 1 + 2^-20 in size */
-    BBFMM_NO_FLOOR = 12     /* the floor of a ratio map is not a finite number above 0 */
+    BBFMM_NO_FLOOR = 12,    /* the floor of a ratio map is not a finite number above 0 */
+    BBFMM_NO_FIRST_LINE = 13, /* a Matrix Market text has not the first line that is read */
+    BBFMM_NO_SIZE = 14,     /* it has no size line, or a size is not 0 to 1,024 */
+    BBFMM_BAD_ENTRY = 15,   /* an entry is not a whole number of at most 2^53 in size, or, in writing, is -0.0 */
+    BBFMM_WRONG_COUNT = 16  /* there are too few entries, or too many */
 };
+
+/* What the calls that read and write Matrix Market texts answer, taken apart: BBFMM_DONE or the number of a refusal; and the line that
+   the refusal speaks of, from 1, or 0 where it speaks of none. */
+#define BBFMM_NUMBER(answer) ((uint8_t)((answer) % 256))
+#define BBFMM_LINE(answer) ((uint64_t)(answer) / 256)
 
 /* What a ratio map answers at a point. */
 enum {
@@ -247,6 +257,50 @@ uint8_t bbfmm_graham_ratios(
     const double *carbon_monoxide, size_t carbon_monoxide_length, const double *nitrogen, size_t nitrogen_length,
     const double *oxygen, size_t oxygen_length, double *values, size_t values_length, double *factors, size_t factors_length,
     uint8_t *answers, size_t answers_length, double *ratios, size_t ratios_length);
+
+/* EXCHANGE */
+
+/*
+ * The calls below take blocks from Matrix Market texts and back: array format, integer field, general symmetry, entries by columns.
+ * They answer number + 256 * line. With several faults the one on the earliest line is told, before any BBFMM_WRONG_LENGTH, whose line
+ * is 0.
+ *
+ * A text is its lines, each ended by a newline, byte 10; the last newline may lack. The first line is
+ * `%%MatrixMarket matrix array integer general`, the four words after the banner in any letter case. Then come comments, which begin
+ * with %, and blank lines, which have nothing or spaces only; the size line, rows and columns, 0 to 1,024 each, parted by spaces; and
+ * the entries, one a line, each an optional minus and digits, at most 2^53 in size. Nothing else stands in a line, and nothing
+ * follows the entries.
+ */
+
+/*
+ * How many rows and columns the block of a text has. What follows the size line is not looked at.
+ * text: any bytes.
+ * sizes: 2 entries. They become the rows and the columns.
+ * Refuses with 13, 14, 7, in this order.
+ */
+uint64_t bbfmm_block_size(const uint8_t *text, size_t text_length, size_t *sizes, size_t sizes_length);
+
+/*
+ * Reads the block of a text.
+ * text: any bytes.
+ * block: rows by columns. Each entry becomes its number, of which nothing is rounded; -0 becomes +0.0.
+ * sizes: 2 entries. They become the rows and the columns.
+ * Refuses with 13, 14, 15, 16, in the order of lines; then with 7.
+ */
+uint64_t bbfmm_read_block(
+    const uint8_t *text, size_t text_length, double *block, size_t block_length, size_t *sizes, size_t sizes_length);
+
+/*
+ * Writes a block as a text, which bbfmm_read_block reads as the same block.
+ * block: rows by columns.
+ * text: at least as many bytes as are written. Those past them stay as lent.
+ * written: 1 entry. It becomes how many bytes are written.
+ * Refuses with 14 at line 2; then with 7 for the block; then with 15 at the line that the entry would have; then with 7 for the text
+ * and for written.
+ */
+uint64_t bbfmm_write_block(
+    size_t rows, size_t columns, const double *block, size_t block_length, uint8_t *text, size_t text_length, size_t *written,
+    size_t written_length);
 
 /* CHOICES */
 

@@ -9,7 +9,7 @@ int memcmp(const void *left, const void *right, size_t bytes);
 void *malloc(size_t bytes);
 void *calloc(size_t count, size_t bytes);
 
-enum { CALLS = 25, SIZES = 3, NUMBERS = 1000, NODES = 4096 };
+enum { CALLS = 27, SIZES = 3, NUMBERS = 1000, NODES = 4096 };
 
 static const size_t DIMENSIONS[SIZES] = {1, 2, 3};
 static const size_t ORDERS[SIZES] = {2, 8, 16};
@@ -31,6 +31,9 @@ static double numbers[NUMBERS];
 static double carbon_monoxide[NODES];
 static double nitrogen[NODES];
 static double oxygen[NODES];
+static double *whole;
+static uint8_t *text;
+static size_t text_length;
 static uint8_t *mask;
 static double *written;
 static uint16_t *table;
@@ -60,13 +63,28 @@ static void make_air(void)
     }
 }
 
+/* A block of whole numbers of all lengths, half of them negative, and its text; as bench/src/measures/exchange.rs has them. */
+static void make_text(size_t count)
+{
+    size_t entries = count * count;
+    size_t room = 54 + 18 * entries;
+    whole = malloc(entries * sizeof *whole);
+    text = malloc(room);
+    for (size_t k = 0; k < entries; k++) {
+        uint64_t bits = (k + 1) * 0x9e3779b97f4a7c15;
+        double size = (double)(bits >> 11 >> k % 53);
+        whole[k] = k % 2 == 1 && size > 0 ? -size : size;
+    }
+    plain_write_block(count, count, whole, entries, text, room, &text_length, 1);
+}
+
 /* Floats between -1 and 1, in no order; nodes and polynomials there; a smooth block; values that fall; a mask; normal floats; air. */
 static void make(size_t call, size_t size)
 {
     size_t order = call == 15 ? SAMPLED_ORDERS[size] : ORDERS[size];
     size_t count = COUNTS[size];
     size_t each = power(order, 3) * 4096;
-    written_count = call == 17 ? 4 * each + 500000 : call == 16 || call == 20 ? each + 500000 : 2200000;
+    written_count = call == 17 ? 4 * each + 500000 : call == 16 || call == 20 ? each + 500000 : 2400000;
     table_count = 8192;
     given = malloc(16384 * sizeof *given);
     nodes = malloc(16 * sizeof *nodes);
@@ -92,6 +110,9 @@ static void make(size_t call, size_t size)
         numbers[k] = normal(k);
     }
     make_air();
+    if (call >= 25) {
+        make_text(count);
+    }
 }
 
 static void transfer(bool ours, size_t size, bool transpose)
@@ -264,6 +285,17 @@ static void choose(bool ours, size_t size, bool is_cutoff)
     }
 }
 
+/* The text of a block, read; and the block, written. */
+static void exchange(bool ours, size_t size, bool is_written)
+{
+    size_t n = COUNTS[size];
+    if (is_written) {
+        (ours ? bbfmm_write_block : plain_write_block)(n, n, whole, n * n, (uint8_t *)written, text_length, answer, 1);
+    } else {
+        (ours ? bbfmm_read_block : plain_read_block)(text, text_length, written, n * n, answer, 2);
+    }
+}
+
 static void operators(bool ours, size_t size)
 {
     size_t p = ORDERS[size];
@@ -305,7 +337,9 @@ static void once(bool ours, size_t call, size_t size)
     case 21: choose(ours, size, false); break;
     case 22: choose(ours, size, true); break;
     case 23: cross(ours, size, false); break;
-    default: cross(ours, size, true); break;
+    case 24: cross(ours, size, true); break;
+    case 25: exchange(ours, size, false); break;
+    default: exchange(ours, size, true); break;
     }
 }
 

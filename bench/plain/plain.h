@@ -44,6 +44,13 @@ uint8_t plain_graham_ratios(
     const double *restrict carbon_monoxide, size_t carbon_monoxide_length, const double *restrict nitrogen, size_t nitrogen_length,
     const double *restrict oxygen, size_t oxygen_length, double *restrict values, size_t values_length, double *restrict factors,
     size_t factors_length, uint8_t *restrict answers, size_t answers_length, double *restrict ratios, size_t ratios_length);
+uint64_t plain_block_size(const uint8_t *restrict text, size_t text_length, size_t *restrict sizes, size_t sizes_length);
+uint64_t plain_read_block(
+    const uint8_t *restrict text, size_t text_length, double *restrict block, size_t block_length, size_t *restrict sizes,
+    size_t sizes_length);
+uint64_t plain_write_block(
+    size_t rows, size_t columns, const double *restrict block, size_t block_length, uint8_t *restrict text, size_t text_length,
+    size_t *restrict written, size_t written_length);
 uint8_t plain_argmax_masked(
     const double *restrict entries, size_t entries_length, const uint8_t *restrict mask, size_t mask_length,
     size_t *restrict place, size_t place_length);

@@ -4,6 +4,7 @@ mod blocks;
 mod cells;
 mod choices;
 mod distances;
+mod exchange;
 mod polynomials;
 mod ratios;
 mod turns;
@@ -25,7 +26,7 @@ pub const SHAPES: [(usize, usize); SIZES] = [(1, 2), (2, 8), (3, 16)];
 
 pub type Make = fn(usize) -> Measure;
 
-pub const CALLS: [(&str, Make); 25] = [
+pub const CALLS: [(&str, Make); 27] = [
     ("generate_chebyshev_nodes", polynomials::nodes),
     ("evaluate_chebyshev_polynomials", polynomials::values),
     ("evaluate_chebyshev_polynomials, with derivatives", polynomials::derivatives),
@@ -51,6 +52,8 @@ pub const CALLS: [(&str, Make); 25] = [
     ("calculate_singular_values_cutoff", choices::cutoff),
     ("aca_partial_pivoting", choices::cross),
     ("aca_partial_pivoting, restart", choices::restart),
+    ("read_block", exchange::read_block),
+    ("write_block", exchange::write_block),
 ];
 
 /// Floats between -1 and 1, as many as wanted, in no order.

@@ -30,6 +30,7 @@ void test_points(void);
 void test_distances(void);
 void test_coefficients(void);
 void test_ratios(void);
+void test_exchange(void);
 void test_choices(void);
 void test_aca(void);
 

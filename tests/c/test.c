@@ -58,6 +58,7 @@ int main(void)
     test_distances();
     test_coefficients();
     test_ratios();
+    test_exchange();
     test_choices();
     test_aca();
     printf("C: %d passed, %d failed\n", passed, failed);

@@ -5,7 +5,7 @@ int printf(const char *format, ...);
 int memcmp(const void *left, const void *right, size_t bytes);
 void *memcpy(void *to, const void *from, size_t bytes);
 
-enum { HIGHEST = 12 };
+enum { HIGHEST = 16 };
 
 static size_t faults;
 
@@ -199,6 +199,7 @@ int main(void)
     walk_distances();
     walk_coefficients();
     walk_ratios();
+    walk_exchange();
     walk_choices();
     walk_aca();
     return faults == 0 ? 0 : 1;

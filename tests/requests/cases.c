@@ -47,6 +47,20 @@ static uint64_t digits(const char *word, uint64_t base)
     return is_negative ? -n : n;
 }
 
+/* Bytes, two digits each, in so many words. */
+static void read_bytes(Field *field, size_t words)
+{
+    static char word[2 * MOST + 1];
+    field->count = 0;
+    for (; words > 0; words--) {
+        read_word(word, sizeof word);
+        for (size_t i = 0; word[i] != 0 && word[i + 1] != 0 && field->count < MOST; i += 2) {
+            const char pair[3] = {word[i], word[i + 1], 0};
+            field->values[field->count++] = digits(pair, 16);
+        }
+    }
+}
+
 static void read_field(const char *side)
 {
     static char word[64];
@@ -57,11 +71,14 @@ static void read_field(const char *side)
     field->kind = word[0];
     read_word(word, sizeof word);
     field->count = digits(word, 10);
+    if (field->kind == 'x') {
+        read_bytes(field, field->count);
+        return;
+    }
     for (size_t i = 0; i < field->count; i++) {
         read_word(word, sizeof word);
         bool is_nan = strcmp(word, "nan") == 0;
-        bool is_hex = field->kind == 'f' || field->kind == 'x';
-        field->values[i % MOST] = is_nan ? NAN_BITS : digits(word, is_hex ? 16 : 10);
+        field->values[i % MOST] = is_nan ? NAN_BITS : digits(word, field->kind == 'f' ? 16 : 10);
     }
 }
 
@@ -120,6 +137,16 @@ size_t reals(const char *name, double *list, size_t room)
     return count;
 }
 
+size_t bytes(const char *name, uint8_t *list, size_t room)
+{
+    const Field *field = find("in", name);
+    size_t count = field == 0 ? 0 : field->count;
+    for (size_t i = 0; i < count && i < room; i++) {
+        list[i] = (uint8_t)field->values[i];
+    }
+    return count;
+}
+
 /* WHAT MUST COME OUT */
 
 void hold(bool holds, const char *what)
@@ -172,6 +199,15 @@ void hold_reals(const char *name, const double *list, size_t count)
     }
 }
 
+void hold_bytes(const char *name, const uint8_t *list, size_t count)
+{
+    const Field *field = find("out", name);
+    hold(field != 0 && field->count == count, name);
+    for (size_t i = 0; !is_wrong && i < count; i++) {
+        hold(field->values[i] == list[i], name);
+    }
+}
+
 void hold_checksum(const char *name, const double *list, size_t count)
 {
     const Field *field = find("out", name);
@@ -182,7 +218,10 @@ void hold_checksum(const char *name, const double *list, size_t count)
             sum = (sum ^ (bits >> 8 * byte & 0xff)) * 0x100000001b3;
         }
     }
-    hold(field != 0 && field->count == 1 && field->values[0] == sum, name);
+    hold(field != 0 && field->count == sizeof sum, name);
+    for (size_t i = 0; !is_wrong && i < sizeof sum; i++) {
+        hold(field->values[i] == (sum >> 8 * (sizeof sum - 1 - i) & 0xff), name); /* The first digit is the highest. */
+    }
 }
 
 /* THE PROGRAM */
@@ -199,6 +238,8 @@ static Answer *answer_of(const char *file)
         {"e03_sampler", answer_e03_sampler},
         {"e04_cross", answer_e04_cross},
         {"e05_ratio", answer_e05_ratio},
+        {"e06_read", answer_e06_read},
+        {"e06_write", answer_e06_write},
     };
     for (size_t i = 0; i < sizeof all / sizeof all[0]; i++) {
         if (strcmp(all[i].file, file) == 0) {

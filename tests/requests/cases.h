@@ -6,8 +6,8 @@
 
 enum { FIELDS = 32, MOST = 4096 };
 
-/* A field: its name, its kind (u and i for whole numbers, f for floats, x for a checksum), and its values, of which floats stand as
-   bits. */
+/* A field: its name, its kind (u and i for whole numbers, f for floats, x for bytes, as those of a checksum), and its values, of which
+   floats stand as bits. */
 typedef struct {
     char side[4]; /* in or out */
     char name[28];
@@ -23,6 +23,9 @@ double real(const char *name);
 /* The floats of a field, and how many they are. */
 size_t reals(const char *name, double *list, size_t room);
 
+/* The bytes of a field, and how many they are. */
+size_t bytes(const char *name, uint8_t *list, size_t room);
+
 /* How many values a field has. */
 size_t count_of(const char *name);
 
@@ -30,6 +33,7 @@ size_t count_of(const char *name);
 void hold_number(const char *name, size_t found);
 void hold_numbers(const char *name, const size_t *list, size_t count);
 void hold_reals(const char *name, const double *list, size_t count);
+void hold_bytes(const char *name, const uint8_t *list, size_t count);
 /* The same for a field that has only the checksum of the floats: FNV-1a over their bytes, the lowest first. */
 void hold_checksum(const char *name, const double *list, size_t count);
 /* For what the case does not list. */
@@ -45,5 +49,7 @@ Answer answer_e03_sqrt;
 Answer answer_e03_sampler;
 Answer answer_e04_cross;
 Answer answer_e05_ratio;
+Answer answer_e06_read;
+Answer answer_e06_write;
 
 #endif

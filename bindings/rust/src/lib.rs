@@ -1,11 +1,13 @@
 //! The operators of a black-box fast multipole method, from a library in which every call is proved
 //! to meet its contract: Chebyshev nodes and polynomials, transfer between a block and its
-//! children, turning a block, points, distances, coefficients, Graham's ratio, cross approximation.
+//! children, turning a block, points, distances, coefficients, Graham's ratio, blocks as Matrix
+//! Market texts, cross approximation.
 //!
 //! Each function here is one call of the static library `libbbfmm.a`. It copies nothing, allocates
 //! nothing and keeps nothing between calls, so any thread may call it. It ends for every input,
 //! never panics with the library that it was built for, and answers a [`Refusal`] where the input
-//! lies outside its limits; then every lent slice is as it came. [`square_root`] takes every float.
+//! lies outside its limits; then every lent slice is as it came. The calls on texts answer a
+//! [`TextRefusal`], which has a line too. [`square_root`] takes every float.
 //!
 //! # Words
 //!
@@ -43,6 +45,7 @@ mod chebyshev;
 mod choices;
 mod coefficients;
 mod distances;
+mod exchange;
 mod points;
 mod ratios;
 mod refusal;
@@ -55,6 +58,7 @@ pub use chebyshev::{evaluate_chebyshev_polynomials, generate_chebyshev_nodes};
 pub use choices::{argmax_masked, calculate_singular_values_cutoff};
 pub use coefficients::{Cell, Gradients, get_approximation_coefficients};
 pub use distances::{sample_distances, square_root};
+pub use exchange::{Size, TextRefusal, block_size, read_block, write_block};
 pub use points::{generate_chebyshev_source_points, generate_chebyshev_target_points};
 pub use ratios::{Air, Gases, graham_ratios};
 pub use refusal::Refusal;

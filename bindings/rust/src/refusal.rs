@@ -46,11 +46,19 @@ pub enum Refusal {
     OutOfCell = 11,
     /// The floor of the oxygen deficiency is not finite and above 0.
     NoFloor = 12,
+    /// A Matrix Market text has not the first line that is read.
+    NoFirstLine = 13,
+    /// A Matrix Market text has no size line, or a size, also of a block to write, is above 1,024.
+    NoSize = 14,
+    /// An entry is not a whole number of at most 2^53 in size, or, in writing, is -0.0.
+    BadEntry = 15,
+    /// A Matrix Market text has too few entries, or too many.
+    WrongCount = 16,
 }
 
 impl Refusal {
     /// Every refusal, by rising number.
-    pub const ALL: [Refusal; 12] = [
+    pub const ALL: [Refusal; 16] = [
         Refusal::NoDimension,
         Refusal::NoOrder,
         Refusal::NoCount,
@@ -63,9 +71,13 @@ impl Refusal {
         Refusal::NoMask,
         Refusal::OutOfCell,
         Refusal::NoFloor,
+        Refusal::NoFirstLine,
+        Refusal::NoSize,
+        Refusal::BadEntry,
+        Refusal::WrongCount,
     ];
 
-    /// The number of the refusal, from 1 to 12, as the library and its documents give it.
+    /// The number of the refusal, from 1 to 16, as the library and its documents give it.
     #[must_use]
     pub fn number(self) -> u8 {
         self as u8
@@ -86,6 +98,10 @@ impl Refusal {
             Refusal::NoMask => "a byte of the mask is not 0 or 1",
             Refusal::OutOfCell => "a point is out of the cell",
             Refusal::NoFloor => "the floor is not finite and above 0",
+            Refusal::NoFirstLine => "the first line is another",
+            Refusal::NoSize => "there are no sizes of 0 to 1,024",
+            Refusal::BadEntry => "an entry is not whole, too large, or -0.0",
+            Refusal::WrongCount => "there are too few entries, or too many",
         }
     }
 }
@@ -106,5 +122,5 @@ pub(crate) fn told(number: u8) -> Result<(), Refusal> {
     let place = usize::from(number) - 1;
     Err(*Refusal::ALL
         .get(place)
-        .expect("a libbbfmm.a of this version answers 0 to 12"))
+        .expect("a libbbfmm.a of this version answers 0 to 16"))
 }

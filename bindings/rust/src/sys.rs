@@ -189,6 +189,33 @@ unsafe extern "C" {
         ratios_length: usize,
     ) -> u8;
 
+    fn bbfmm_block_size(
+        text: *const u8,
+        text_length: usize,
+        sizes: *mut usize,
+        sizes_length: usize,
+    ) -> u64;
+
+    fn bbfmm_read_block(
+        text: *const u8,
+        text_length: usize,
+        block: *mut f64,
+        block_length: usize,
+        sizes: *mut usize,
+        sizes_length: usize,
+    ) -> u64;
+
+    fn bbfmm_write_block(
+        rows: usize,
+        columns: usize,
+        block: *const f64,
+        block_length: usize,
+        text: *mut u8,
+        text_length: usize,
+        written: *mut usize,
+        written_length: usize,
+    ) -> u64;
+
     fn bbfmm_argmax_masked(
         entries: *const f64,
         entries_length: usize,
@@ -519,6 +546,50 @@ pub(crate) fn graham_ratios(
             answers.len(),
             ratios.as_mut_ptr(),
             ratios.len(),
+        )
+    }
+}
+
+pub(crate) fn block_size(text: &[u8], sizes: &mut [usize; 2]) -> u64 {
+    // SAFETY: two slices by their pointers and lengths. `text` is only read; `sizes` is borrowed
+    // mutably, so they do not overlap.
+    unsafe { bbfmm_block_size(text.as_ptr(), text.len(), sizes.as_mut_ptr(), sizes.len()) }
+}
+
+pub(crate) fn read_block(text: &[u8], block: &mut [f64], sizes: &mut [usize; 2]) -> u64 {
+    // SAFETY: three slices by their pointers and lengths. `text` is only read; the two others are
+    // borrowed mutably, so they overlap nothing.
+    unsafe {
+        bbfmm_read_block(
+            text.as_ptr(),
+            text.len(),
+            block.as_mut_ptr(),
+            block.len(),
+            sizes.as_mut_ptr(),
+            sizes.len(),
+        )
+    }
+}
+
+pub(crate) fn write_block(
+    rows: usize,
+    columns: usize,
+    block: &[f64],
+    text: &mut [u8],
+    written: &mut [usize; 1],
+) -> u64 {
+    // SAFETY: three slices by their pointers and lengths. `block` is only read; the two others are
+    // borrowed mutably, so they overlap nothing.
+    unsafe {
+        bbfmm_write_block(
+            rows,
+            columns,
+            block.as_ptr(),
+            block.len(),
+            text.as_mut_ptr(),
+            text.len(),
+            written.as_mut_ptr(),
+            written.len(),
         )
     }
 }

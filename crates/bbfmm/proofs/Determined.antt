@@ -20,6 +20,7 @@ use Rattle.distances.specs.Distances as distances
 use Rattle.coefficients.specs.Coefficients as coefficients
 use Rattle.ratios.specs.Ratios as ratios
 use Rattle.aca_steps.specs.Memories.{Memory}
+use Rattle.bbfmm.specs.Exchanged.{sizeTold, readTold, writeTold}
 use Rattle.bbfmm.specs.Told.{lookUpTold, followTold, referenceTold, argmaxTold, cutoffTold, Crossed, crossTold}
 
 -- TURNING A BLOCK
@@ -110,6 +111,20 @@ module _ (dimension order rows : ℕ) (side floor : Float) (centre polynomials c
       r' ≡ ratios.ratiosCall dimension order rows side floor centre polynomials carbonMonoxide nitrogen oxygen lent → r ≡ r'
   bbfmm-graham-ratios-determined =
       coincide r r' (ratios.ratiosCall dimension order rows side floor centre polynomials carbonMonoxide nitrogen oxygen lent)
+
+-- BLOCKS AS TEXTS
+
+module _ (text sizes : List ℕ) (r r' : ℕ × List ℕ) where
+  bbfmm-block-size-determined : r ≡ sizeTold text sizes → r' ≡ sizeTold text sizes → r ≡ r'
+  bbfmm-block-size-determined = coincide r r' (sizeTold text sizes)
+
+module _ (text : List ℕ) (block : List Float) (sizes : List ℕ) (r r' : ℕ × List Float × List ℕ) where
+  bbfmm-read-block-determined : r ≡ readTold text block sizes → r' ≡ readTold text block sizes → r ≡ r'
+  bbfmm-read-block-determined = coincide r r' (readTold text block sizes)
+
+module _ (rows columns : ℕ) (block : List Float) (text written : List ℕ) (r r' : ℕ × List ℕ × List ℕ) where
+  bbfmm-write-block-determined : r ≡ writeTold rows columns block text written → r' ≡ writeTold rows columns block text written → r ≡ r'
+  bbfmm-write-block-determined = coincide r r' (writeTold rows columns block text written)
 
 -- CHOICES AND CROSS APPROXIMATION
 

@@ -2,4 +2,5 @@ pub mod Lengths
 pub mod Numbers
 pub mod Places
 pub mod Reports
+pub mod Exchanges
 pub mod Determined

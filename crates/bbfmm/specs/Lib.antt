@@ -1,3 +1,4 @@
 pub mod Answers
+pub mod Exchanged
 pub mod Told
 pub mod Working

@@ -5,6 +5,7 @@ mod chebyshev_calls;
 mod choices_calls;
 mod coefficients_calls;
 mod distances_calls;
+mod exchange_calls;
 mod points_calls;
 mod ratios_calls;
 mod transfer_calls;

@@ -1,7 +1,7 @@
 -- What the requests fix holds: each row is computed from the definitions. Assumes nothing.
 use mathlib.Core.Path.{refl}
 use lib.Count.{trailingZeros}
-use lib.Ieee.{add, sub, mul, div, neg, lt, eq, le, ofInt, ofBits, ofFields, odd, units, round, sum, size as digits, span, climb}
+use lib.Ieee.{add, sub, mul, div, neg, lt, eq, le, whole, ofInt, ofBits, ofFields, odd, units, round, sum, size as digits, span, climb}
 use Rattle.common.specs.Floats.{size, sums}
 use Rattle.common.specs.Refusals.{isCell, left, lower}
 use Rattle.common.specs.Digits.{digit}
@@ -12,6 +12,11 @@ use Rattle.distances.specs.Distances.{added}
 use Rattle.coordinates.specs.Coordinates.{allFinite, coordinateIn, inCell, allInCell, pointsNumber}
 use Rattle.coefficients.specs.Coefficients.{coefficientsNumber, coefficientsCall, lengthsFit}
 use Rattle.ratios.specs.Ratios as ratios
+use Rattle.exchange_format.specs.Lines.{onto, lines, before, from, past, all, same}
+use Rattle.exchange_format.specs.Words.{small, isFirst, isPassed, valueFrom, numeral, size as sizeOf, entry as entryOf}
+use Rattle.exchange_format.specs.Reading.{entries, sizeLine, opening, verdict, reading}
+use Rattle.exchange_format.specs.Writing.{wholeOf, wholes, writing}
+use Rattle.exchange_format.specs.Calls.{sizeCall, readCall, writeCall}
 use Rattle.aca_lines.specs.Largest.{best, argmax, pivot}
 use Rattle.aca_lines.specs.Lines.{residual, multiplied, norm, cross}
 use Rattle.aca_steps.specs.Crosses.{unread, rowRead, columnRead, grown, weighed, stored, elsewhere, onward, without, usable, judged}
@@ -26,6 +31,8 @@ unfolding size isCell each allFinite coordinateIn inCell allInCell pointsNumber 
     elsewhere onward without usable judged accepted tried step followed run report laid fits acaNumber approximation acaCall left
     lengthsFit coefficientsNumber coefficientsCall lower ratios.deficiency ratios.ratio ratios.airOf ratios.isFloor ratios.floorNumber
     ratios.lengthsFit ratios.lengthsNumber ratios.orLast ratios.ratiosNumber ratios.ratiosCall
+    onto lines before from past all same small isFirst isPassed valueFrom numeral sizeOf entryOf entries sizeLine opening verdict reading
+    whole wholeOf wholes writing sizeCall readCall writeCall
     trailingZeros add sub mul div neg lt eq le ofInt ofBits ofFields odd units round sum digits span climb
 requested =
     record {
@@ -57,4 +64,12 @@ requested =
       no-ratio = refl;
       no-floor = λ x. refl;
       cell-first = λ x i. refl;
+      minus-zero = λ x. refl;
+      largest-entry = λ x. refl;
+      past-largest = λ x. refl;
+      no-text = refl;
+      no-sizes = refl;
+      entry-missing = λ x. refl;
+      blank-past = λ x. refl;
+      minus-zero-unwritten = λ b. refl;
     }

@@ -1,9 +1,9 @@
 -- Results that the requests fix, as one table: each row is a line of a request, said of the definition that a call's contract cites.
 use Prim.Native.Nat.{ℕ}
 use mathlib.Core.Path.{_≡_}
-use mathlib.Core.Option.{some}
+use mathlib.Core.Option.{Option, some, none}
 use mathlib.Core.Bool.{true, false}
-use mathlib.Core.List.{[], _∷_}
+use mathlib.Core.List.{List, [], _∷_, _++_}
 use lib.Ieee.{Float, nan, inf, neg, ofBits, binary64}
 use Rattle.common.specs.Floats.{float, zero₆₄, one₆₄, two₆₄, half₆₄}
 use Rattle.coordinates.specs.Coordinates.{pointsNumber}
@@ -11,6 +11,9 @@ use Rattle.roots.specs.Values.{root}
 use Rattle.distances.specs.Distances.{sample}
 use Rattle.ratios.specs.Ratios.{airOf, ratiosCall}
 use Rattle.ratios.specs.declared.air.Air.the-variants.{Ratio, Unusable, Fresh}
+use Rattle.exchange_format.specs.Lines.{newline}
+use Rattle.exchange_format.specs.Words.{banner, kind, Size}
+use Rattle.exchange_format.specs.Calls.{sizeCall, readCall, writeCall}
 use Rattle.aca_steps.specs.Memories.{memory}
 use Rattle.aca.specs.Runs.{call, acaCall}
 use Rattle.fixed.specs.Results.{two, four, lent}
@@ -36,6 +39,23 @@ tenth = ofBits binary64 0x3fb999999999999a
 
 abbrev pub millionth : Float
 millionth = ofBits binary64 0x3eb0c6f7a0b5ed8d
+
+-- a Matrix Market text: the first line, and what follows it; and a block of one entry in it
+abbrev pub file : List ℕ → List ℕ
+file rest = banner ++ (kind ++ (newline ∷ rest))
+
+abbrev pub single : List ℕ → List ℕ
+single entry = file (49 ∷ 32 ∷ 49 ∷ 10 ∷ entry)
+
+-- 9007199254740992, which is 2 ^ 53, and the next number
+abbrev pub most : List ℕ
+most = 57 ∷ 48 ∷ 48 ∷ 55 ∷ 49 ∷ 57 ∷ 57 ∷ 50 ∷ 53 ∷ 52 ∷ 55 ∷ 52 ∷ 48 ∷ 57 ∷ 57 ∷ 50 ∷ []
+
+abbrev pub past-most : List ℕ
+past-most = 57 ∷ 48 ∷ 48 ∷ 55 ∷ 49 ∷ 57 ∷ 57 ∷ 50 ∷ 53 ∷ 52 ∷ 55 ∷ 52 ∷ 48 ∷ 57 ∷ 57 ∷ 51 ∷ []
+
+abbrev pub one-by-one : Option Size
+one-by-one = some (record { rows = 1; columns = 1 })
 
 pub record Requested : Type 0 where
   -- E1: in a cell of side 2 about 0, a point at 1 + 2 ^ -20 passes, on either side; at the next float it is refused with 11
@@ -97,3 +117,15 @@ pub record Requested : Type 0 where
   pub cell-first : (x : Float) (i : ℕ) →
       ratiosCall 1 1 1 two₆₄ zero₆₄ (zero₆₄ ∷ []) (x ∷ []) (x ∷ []) (x ∷ []) (x ∷ []) (beyond ∷ [], x ∷ [], x ∷ [], i ∷ [], x ∷ [])
       ≡ (11, (beyond ∷ [], x ∷ [], x ∷ [], i ∷ [], x ∷ []))
+  -- E6: -0 is read as +0.0, and 2 ^ 53 as itself; the next number is refused with 15 at its line, and the block stays
+  pub minus-zero : (x : Float) → readCall (single (45 ∷ 48 ∷ [])) (x ∷ []) ≡ ((0, 0, one-by-one), zero₆₄ ∷ [])
+  pub largest-entry : (x : Float) → readCall (single most) (x ∷ []) ≡ ((0, 0, one-by-one), ofBits binary64 0x4340000000000000 ∷ [])
+  pub past-largest : (x : Float) → readCall (single past-most) (x ∷ []) ≡ ((15, 3, none), x ∷ [])
+  -- an empty text has no first line, and the first line alone no sizes
+  pub no-text : sizeCall [] ≡ (13, 1, none)
+  pub no-sizes : sizeCall (file []) ≡ (14, 2, none)
+  -- a missing entry is refused where it should stand, and a blank line past the last one where it stands
+  pub entry-missing : (x : Float) → readCall (single []) (x ∷ []) ≡ ((16, 3, none), x ∷ [])
+  pub blank-past : (x : Float) → readCall (single (53 ∷ 10 ∷ 10 ∷ [])) (x ∷ []) ≡ ((16, 4, none), x ∷ [])
+  -- in writing -0.0 is refused with 15, at the line that it would have
+  pub minus-zero-unwritten : (b : ℕ) → writeCall 1 1 (neg zero₆₄ ∷ []) (b ∷ []) ≡ ((15, 3, none), b ∷ [])

@@ -10,6 +10,7 @@ mod coefficients;
 mod cross;
 mod distances;
 mod draw;
+mod exchange;
 mod fixed;
 mod held;
 mod points;

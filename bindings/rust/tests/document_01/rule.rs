@@ -6,6 +6,7 @@ pub mod choices;
 pub mod coefficients;
 pub mod cross;
 pub mod distances;
+pub mod exchange;
 pub mod points;
 pub mod ratios;
 pub mod roots;

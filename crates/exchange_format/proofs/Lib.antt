@@ -1,0 +1,9 @@
+pub mod Entries
+pub mod Numerals
+pub mod RoundTrip
+pub mod Meant
+pub mod Faults
+pub mod Exact
+pub mod Judged
+pub mod BackTrip
+pub mod Bounds

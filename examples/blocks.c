@@ -133,7 +133,7 @@ typedef struct {
     double *row, *column;
     size_t row_length, column_length;
     size_t counts[3]; /* rank, why the run ended, how many rows were read */
-    double estimate[1];
+    double numbers[2]; /* the estimate of the squared norm, the smallest pivot */
 } Approximation;
 
 /* The lengths are those of restart mode. */
@@ -163,7 +163,7 @@ static Approximation approximate(Block b, double tolerance)
     uint8_t number = bbfmm_aca_partial_pivoting(
         b.rows, b.columns, b.block, b.block_length, tolerance, restart, a.u, a.u_length, a.v, a.v_length, a.row_list,
         a.row_list_length, a.column_list, a.column_list_length, a.row, a.row_length, a.column, a.column_length, a.counts, 3,
-        a.estimate, 1);
+        a.numbers, 2);
     if (number != BBFMM_DONE) {
         dprintf(STANDARD_ERROR, "blocks: the cross approximation refuses with %d\n", number);
         exit(1);
@@ -230,6 +230,9 @@ static void print_report(Block b, const Approximation *a, double tolerance)
     printf("tolerance: %g\n", tolerance);
     printf("rank: %zu\n", rank);
     printf("stopped since %s\n", words_of_stop(a->counts[1]));
+    if (rank > 0) {
+        printf("smallest pivot: %g\n", a->numbers[1]);
+    }
     print_list("rows", a->row_list, a->counts[2], b.rows);
     print_list("columns", a->column_list, rank, b.columns);
     printf("largest gap between the block and its factors: %g\n", largest_gap(b, a));

@@ -345,14 +345,15 @@ uint8_t bbfmm_calculate_singular_values_cutoff(
  *     the earlier terms, and multiplied by 1/pivot if it had one; what was not worked on stays as lent.
  * counts: 3 entries. They become the rank, why the run ended, a BBFMM_STOP, and how many rows were read. As many columns were read
  *     as the rank says.
- * estimate: 1 entry. It becomes the estimate of the approximation's squared norm.
+ * numbers: 2 entries. They become the estimate of the approximation's squared norm, and the smallest size among the pivots that rows
+ *     were divided by. A NaN among these is passed over, and where none is a number it is +0.0; otherwise it is at least 2^-52.
  * Refuses with 3, 7.
  */
 uint8_t bbfmm_aca_partial_pivoting(
     size_t rows, size_t columns, const double *samples, size_t samples_length, double epsilon, bool restart, double *u,
     size_t u_length, double *v, size_t v_length, uint16_t *row_list, size_t row_list_length, uint16_t *column_list,
     size_t column_list_length, double *row, size_t row_length, double *column, size_t column_length, size_t *counts,
-    size_t counts_length, double *estimate, size_t estimate_length);
+    size_t counts_length, double *numbers, size_t numbers_length);
 
 #ifdef __cplusplus
 }

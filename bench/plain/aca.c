@@ -111,6 +111,15 @@ static void read_line(
     }
 }
 
+/* The smallest size among the pivots that are numbers, with one more of them; 0 where there is none yet. */
+static double lesser(double smallest, double size)
+{
+    if (smallest > 0) {
+        return size < smallest ? size : smallest;
+    }
+    return size == size ? size : smallest;
+}
+
 /* Makes term k of the row that was read, with its pivot in column j, and of that column. Adds to the estimate, and answers the norm. */
 static double add_term(const Lent *lent, size_t k, size_t j, double *restrict estimate)
 {
@@ -150,8 +159,9 @@ static size_t lowest_unread(const uint8_t *restrict flags, size_t rows, size_t f
     return from;
 }
 
-/* Leaves rank and rows read in `counts`, and answers why the run ended. No row below `lowest` is unread. */
-static size_t run(const Lent *lent, double tolerance, bool restart, size_t *restrict counts, double *restrict estimate)
+/* Leaves rank and rows read in `counts`, estimate and smallest pivot in `numbers`, and answers why the run ended. No row below `lowest`
+   is unread. */
+static size_t run(const Lent *lent, double tolerance, bool restart, size_t *restrict counts, double *restrict numbers)
 {
     uint8_t row_flags[1024];
     uint8_t column_flags[1024];
@@ -169,9 +179,10 @@ static size_t run(const Lent *lent, double tolerance, bool restart, size_t *rest
         size_t j = argmax(lent->row, column_flags, lent->columns);
         double size = size_of(lent->row[j]);
         if (restart ? size >= 0x1p-52 && column_flags[j] == 1 : !(size < 0x1p-52)) {
-            double norm = add_term(lent, counts[0]++, j, estimate);
+            numbers[1] = lesser(numbers[1], size);
+            double norm = add_term(lent, counts[0]++, j, numbers);
             column_flags[j] = 0;
-            if (norm <= tolerance * *estimate) {
+            if (norm <= tolerance * numbers[0]) {
                 return BBFMM_STOP_TOLERABLE;
             }
             next = argmax(lent->column, row_flags, rows);
@@ -192,7 +203,7 @@ uint8_t plain_aca_partial_pivoting(
     size_t rows, size_t columns, const double *restrict samples, size_t samples_length, double epsilon, bool restart,
     double *restrict u, size_t u_length, double *restrict v, size_t v_length, uint16_t *restrict row_list, size_t row_list_length,
     uint16_t *restrict column_list, size_t column_list_length, double *restrict row, size_t row_length, double *restrict column,
-    size_t column_length, size_t *restrict counts, size_t counts_length, double *restrict estimate, size_t estimate_length)
+    size_t column_length, size_t *restrict counts, size_t counts_length, double *restrict numbers, size_t numbers_length)
 {
     size_t most = rows < columns ? rows : columns;
     if (rows > 1024 || columns > 1024) {
@@ -200,13 +211,14 @@ uint8_t plain_aca_partial_pivoting(
     }
     if (samples_length != rows * columns || u_length != most * rows || v_length != most * columns ||
         row_list_length != (restart ? rows : most) || column_list_length != most || row_length != columns || column_length != rows ||
-        counts_length != 3 || estimate_length != 1) {
+        counts_length != 3 || numbers_length != 2) {
         return BBFMM_WRONG_LENGTH;
     }
     Lent lent = {rows, columns, samples, u, v, row_list, column_list, row, column};
     counts[0] = 0;
     counts[2] = 0;
-    *estimate = 0;
-    counts[1] = run(&lent, epsilon * epsilon, restart, counts, estimate);
+    numbers[0] = 0;
+    numbers[1] = 0;
+    counts[1] = run(&lent, epsilon * epsilon, restart, counts, numbers);
     return 0;
 }

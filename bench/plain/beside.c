@@ -270,9 +270,9 @@ static void cross(bool ours, size_t size, bool restart)
     double *v = u + n * n;
     double *row = v + n * n;
     double *column = row + n;
-    double *estimate = column + n;
+    double *told = column + n;
     (ours ? bbfmm_aca_partial_pivoting : plain_aca_partial_pivoting)(
-        n, n, samples, n * n, 1e-6, restart, u, n * n, v, n * n, table, n, table + 4096, n, row, n, column, n, answer, 3, estimate, 1);
+        n, n, samples, n * n, 1e-6, restart, u, n * n, v, n * n, table, n, table + 4096, n, row, n, column, n, answer, 3, told, 2);
 }
 
 static void choose(bool ours, size_t size, bool is_cutoff)

@@ -60,7 +60,7 @@ uint8_t plain_aca_partial_pivoting(
     size_t rows, size_t columns, const double *restrict samples, size_t samples_length, double epsilon, bool restart,
     double *restrict u, size_t u_length, double *restrict v, size_t v_length, uint16_t *restrict row_list, size_t row_list_length,
     uint16_t *restrict column_list, size_t column_list_length, double *restrict row, size_t row_length, double *restrict column,
-    size_t column_length, size_t *restrict counts, size_t counts_length, double *restrict estimate, size_t estimate_length);
+    size_t column_length, size_t *restrict counts, size_t counts_length, double *restrict numbers, size_t numbers_length);
 
 /* The numbers that an order, and a dimension with an order, bring; 0 is none. An order to the power of a dimension. */
 static inline uint8_t of_order(size_t order)

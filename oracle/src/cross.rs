@@ -148,15 +148,18 @@ fn noted(block: &Block) -> Result<Cross, String> {
     })
 }
 
-/// Asks the text; its copy that notes, and our own writing of the rule, must both agree with it.
+/// Asks the text; its copy that notes, and our own writing of the rule, must both agree with it. The rule
+/// alone says what the smallest pivot is.
 pub fn answer(block: &Block) -> Result<Cross, String> {
     let place = format!("cross {} {}", block.rows, block.columns);
-    let cross = noted(block)?;
+    let mut cross = noted(block)?;
     if !text(block)?.same(&cross.factors) {
         return Err(format!("{place}: the copy that notes is not the text"));
     }
-    if !cross_rule::run(block, Order::Rising).same(&cross) {
+    let ruled = cross_rule::run(block, Order::Rising);
+    if !ruled.same(&cross) {
         return Err(format!("{place}: the rule is not the text"));
     }
+    cross.notes.smallest = ruled.notes.smallest;
     Ok(cross)
 }

@@ -37,6 +37,7 @@ struct Run<'a> {
     columns: Vec<usize>,
     us: Vec<Vec<f64>>,
     vs: Vec<Vec<f64>>,
+    pivots: Vec<f64>,
     notes: Notes,
 }
 
@@ -51,6 +52,7 @@ impl<'a> Run<'a> {
             columns: Vec::new(),
             us: Vec::new(),
             vs: Vec::new(),
+            pivots: Vec::new(),
             notes: Notes::default(),
         }
     }
@@ -82,6 +84,7 @@ impl<'a> Run<'a> {
             self.notes.row = v;
             return None;
         }
+        self.pivots.push(size);
         let scale = 1.0 / size;
         v.iter_mut().for_each(|entry| *entry *= scale);
         self.columns.push(column);
@@ -102,6 +105,15 @@ impl<'a> Run<'a> {
     }
 }
 
+/// The smallest size among the pivots that are numbers, or +0.0 where none is.
+fn smallest(pivots: &[f64]) -> f64 {
+    let numbers = pivots.iter().filter(|pivot| !pivot.is_nan());
+    numbers
+        .map(|pivot| pivot.abs())
+        .reduce(f64::min)
+        .unwrap_or(0.0)
+}
+
 /// Runs the rule on a block.
 pub fn run(block: &Block, order: Order) -> Cross {
     let mut run = Run::new(block, order);
@@ -110,6 +122,7 @@ pub fn run(block: &Block, order: Order) -> Cross {
         let Some(row) = next else { break };
         next = run.step(row);
     }
+    run.notes.smallest = smallest(&run.pivots);
     Cross {
         factors: Factors {
             rank: run.us.len(),

@@ -52,7 +52,7 @@ fn line(block: &Block, cross: &Cross, restart: bool) -> String {
         factors.rank,
         notes.stop as u8,
         factors.rows.len(),
-        shown(&[notes.estimate]),
+        shown(&[notes.estimate, notes.smallest]),
         lists.join(" |")
     )
 }

@@ -18,6 +18,8 @@ pub enum Stop {
 #[derive(Clone, Debug, Default)]
 pub struct Notes {
     pub estimate: f64,
+    /// The smallest size among the accepted pivots that are numbers, or +0.0. The text does not tell it.
+    pub smallest: f64,
     pub stop: Stop,
     pub row: Vec<f64>,
     pub column: Vec<f64>,

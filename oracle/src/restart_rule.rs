@@ -32,6 +32,7 @@ fn largest(list: &[f64], taken: &[usize], enough: impl Fn(f64) -> bool) -> Optio
 struct Run<'a> {
     block: &'a Block,
     cross: Cross,
+    least_pivot: Option<f64>,
 }
 
 impl Run<'_> {
@@ -79,6 +80,10 @@ impl Run<'_> {
         let Some(column) = largest(&v, used, |size| size >= LEAST_PIVOT) else {
             return Ok(None);
         };
+        let size = v[column].abs();
+        if self.least_pivot.is_none_or(|least| size < least) {
+            self.least_pivot = Some(size);
+        }
         let scale = 1.0 / v[column];
         v.iter_mut().for_each(|entry| *entry *= scale);
         self.cross.factors.columns.push(column);
@@ -119,7 +124,9 @@ pub fn run(block: &Block) -> Cross {
     let mut run = Run {
         block,
         cross: Cross::default(),
+        least_pivot: None,
     };
     run.cross.notes.stop = run.rows();
+    run.cross.notes.smallest = run.least_pivot.unwrap_or(0.0);
     run.cross
 }

@@ -18,7 +18,7 @@ static uint16_t column_list[2];
 static double row[2];
 static double column[2];
 static size_t counts[3];
-static double estimate[1];
+static double numbers[2];
 
 /* A call on a block of two rows and two columns, column by column, with all buffers whole. */
 static uint8_t called(const double *samples, double epsilon, bool restart)
@@ -32,13 +32,13 @@ static uint8_t called(const double *samples, double epsilon, bool restart)
     }
     return bbfmm_aca_partial_pivoting(
         2, 2, samples, 4, epsilon, restart, LEND(u), LEND(v), LEND(row_list), LEND(column_list), LEND(row), LEND(column),
-        LEND(counts), LEND(estimate));
+        LEND(counts), LEND(numbers));
 }
 
-/* What the last call told: rank, stop, rows read and the estimate. */
-static bool told(size_t rank, size_t stop, size_t rows_read, double sum)
+/* What the last call told: rank, stop, rows read, the estimate and the smallest pivot. */
+static bool told(size_t rank, size_t stop, size_t rows_read, double sum, double smallest)
 {
-    return HOLDS(counts, (size_t[]){rank, stop, rows_read}) && HOLDS(estimate, (double[]){sum});
+    return HOLDS(counts, (size_t[]){rank, stop, rows_read}) && HOLDS(numbers, (double[]){sum, smallest});
 }
 
 /* Its lists. */
@@ -60,14 +60,14 @@ static void test_rank_one(void)
 {
     const double samples[4] = {2, 1, 4, 2};
     CHECK(called(samples, 1, OLD) == BBFMM_DONE);
-    CHECK(told(1, BBFMM_STOP_TOLERABLE, 1, 25));
+    CHECK(told(1, BBFMM_STOP_TOLERABLE, 1, 25, 4));
     CHECK(HOLDS(u, (double[]){4, 2, X, X}));
     CHECK(HOLDS(v, (double[]){0.5, 1, X, X}));
     CHECK(listed(0, NO, 1, NO));
     CHECK(worked(0.5, 1, 4, 2));
 
     CHECK(called(samples, 0.5, OLD) == BBFMM_DONE);
-    CHECK(told(1, BBFMM_STOP_SPENT, 2, 25));
+    CHECK(told(1, BBFMM_STOP_SPENT, 2, 25, 4));
     CHECK(HOLDS(u, (double[]){4, 2, X, X}));
     CHECK(HOLDS(v, (double[]){0.5, 1, X, X}));
     CHECK(listed(0, 1, 1, NO));
@@ -79,7 +79,7 @@ static void test_unit(void)
 {
     const double samples[4] = {1, 0, 0, 1};
     CHECK(called(samples, 0.5, OLD) == BBFMM_DONE);
-    CHECK(told(1, BBFMM_STOP_SPENT, 2, 1));
+    CHECK(told(1, BBFMM_STOP_SPENT, 2, 1, 1));
     CHECK(HOLDS(u, (double[]){1, 0, X, X}));
     CHECK(HOLDS(v, (double[]){1, 0, X, X}));
     CHECK(listed(0, 0, 0, NO));
@@ -93,7 +93,7 @@ static void test_read_again(void)
 {
     const double samples[4] = {49, 0, 0, 0};
     CHECK(called(samples, 0.5, OLD) == BBFMM_DONE);
-    CHECK(told(2, BBFMM_STOP_TOLERABLE, 2, 0x1.2c20000000001p11));
+    CHECK(told(2, BBFMM_STOP_TOLERABLE, 2, 0x1.2c20000000001p11, 0x1p-47));
     CHECK(HOLDS(u, (double[]){49, 0, 0x1p-47, 0}));
     CHECK(HOLDS(v, (double[]){BELOW_ONE, 0, 1, 0}));
     CHECK(listed(0, 0, 0, 0));
@@ -107,7 +107,7 @@ static void test_unit_restarted(void)
 {
     const double samples[4] = {1, 0, 0, 1};
     CHECK(called(samples, 0.5, RESTART) == BBFMM_DONE);
-    CHECK(told(2, BBFMM_STOP_USED_UP, 2, 2));
+    CHECK(told(2, BBFMM_STOP_USED_UP, 2, 2, 1));
     CHECK(HOLDS(u, (double[]){1, 0, 0, 1}));
     CHECK(HOLDS(v, (double[]){1, 0, 0, 1}));
     CHECK(listed(0, 1, 0, 1));
@@ -115,7 +115,7 @@ static void test_unit_restarted(void)
 
     /* The first term's norm is the estimate, so that epsilon 1 ends the run before a next row is looked for. */
     CHECK(called(samples, 1, RESTART) == BBFMM_DONE);
-    CHECK(told(1, BBFMM_STOP_TOLERABLE, 1, 1));
+    CHECK(told(1, BBFMM_STOP_TOLERABLE, 1, 1, 1));
     CHECK(listed(0, NO, 0, NO));
     CHECK(worked(1, 0, 1, 0));
 }
@@ -125,7 +125,7 @@ static void test_nothing_in_the_first_row(void)
 {
     const double samples[4] = {0, 1, 0, 0};
     CHECK(called(samples, 0.5, RESTART) == BBFMM_DONE);
-    CHECK(told(1, BBFMM_STOP_ALL_TRIED, 2, 1));
+    CHECK(told(1, BBFMM_STOP_ALL_TRIED, 2, 1, 1));
     CHECK(HOLDS(u, (double[]){0, 1, X, X}));
     CHECK(HOLDS(v, (double[]){1, 0, X, X}));
     CHECK(listed(0, 1, 0, NO));
@@ -133,11 +133,11 @@ static void test_nothing_in_the_first_row(void)
 
     /* The tolerance is tested before a next row is looked for: 1, though every row was read. */
     CHECK(called(samples, 1, RESTART) == BBFMM_DONE);
-    CHECK(told(1, BBFMM_STOP_TOLERABLE, 2, 1));
+    CHECK(told(1, BBFMM_STOP_TOLERABLE, 2, 1, 1));
     CHECK(listed(0, 1, 0, NO));
 
     CHECK(called(samples, 0.5, OLD) == BBFMM_DONE);
-    CHECK(told(0, BBFMM_STOP_SPENT, 1, 0));
+    CHECK(told(0, BBFMM_STOP_SPENT, 1, 0, 0));
     CHECK(listed(0, NO, NO, NO));
     CHECK(worked(0, 0, X, X));
 }
@@ -147,14 +147,14 @@ static void test_rank_one_restarted(void)
 {
     const double samples[4] = {2, 1, 4, 2};
     CHECK(called(samples, 0.5, RESTART) == BBFMM_DONE);
-    CHECK(told(1, BBFMM_STOP_ALL_TRIED, 2, 25));
+    CHECK(told(1, BBFMM_STOP_ALL_TRIED, 2, 25, 4));
     CHECK(HOLDS(u, (double[]){4, 2, X, X}));
     CHECK(HOLDS(v, (double[]){0.5, 1, X, X}));
     CHECK(listed(0, 1, 1, NO));
     CHECK(worked(0, 0, 4, 2));
 
     CHECK(called(samples, 1, RESTART) == BBFMM_DONE);
-    CHECK(told(1, BBFMM_STOP_TOLERABLE, 1, 25));
+    CHECK(told(1, BBFMM_STOP_TOLERABLE, 1, 25, 4));
     CHECK(listed(0, NO, 1, NO));
     CHECK(worked(0.5, 1, 4, 2));
 }
@@ -168,7 +168,7 @@ static void test_not_read_again(void)
 {
     const double samples[4] = {49, 0, 0, 0};
     CHECK(called(samples, 0.5, RESTART) == BBFMM_DONE);
-    CHECK(told(1, BBFMM_STOP_ALL_TRIED, 2, 0x1.2c1ffffffffffp11));
+    CHECK(told(1, BBFMM_STOP_ALL_TRIED, 2, 0x1.2c1ffffffffffp11, 49));
     CHECK(HOLDS(u, (double[]){49, 0, X, X}));
     CHECK(HOLDS(v, (double[]){BELOW_ONE, 0, X, X}));
     CHECK(listed(0, 1, 0, NO));
@@ -181,14 +181,14 @@ static void test_used_column(void)
 {
     const double samples[4] = {49, 49, 0, 0};
     CHECK(called(samples, 0.5, RESTART) == BBFMM_DONE);
-    CHECK(told(1, BBFMM_STOP_ALL_TRIED, 2, 0x1.2c1ffffffffffp12));
+    CHECK(told(1, BBFMM_STOP_ALL_TRIED, 2, 0x1.2c1ffffffffffp12, 49));
     CHECK(HOLDS(u, (double[]){49, 49, X, X}));
     CHECK(HOLDS(v, (double[]){BELOW_ONE, 0, X, X}));
     CHECK(listed(0, 1, 0, NO));
     CHECK(worked(0x1p-47, 0, 49, 49));
 
     CHECK(called(samples, 0.5, OLD) == BBFMM_DONE);
-    CHECK(counts[0] == 2 && counts[2] == 2);
+    CHECK(counts[0] == 2 && counts[2] == 2 && numbers[1] == 0x1p-47);
     CHECK(listed(0, 1, 0, 0));
     CHECK(worked(1, 0, 0x1p-47, 0x1p-47));
 }
@@ -198,7 +198,7 @@ static void test_zeros(void)
 {
     const double samples[4] = {0, -0.0, -0.0, 0};
     CHECK(called(samples, 0, RESTART) == BBFMM_DONE);
-    CHECK(told(0, BBFMM_STOP_ALL_TRIED, 2, 0));
+    CHECK(told(0, BBFMM_STOP_ALL_TRIED, 2, 0, 0));
     CHECK(HOLDS(u, (double[]){X, X, X, X}));
     CHECK(HOLDS(v, (double[]){X, X, X, X}));
     CHECK(listed(0, 1, NO, NO));
@@ -207,30 +207,49 @@ static void test_zeros(void)
 
 /* BLOCKS OF ONE ENTRY */
 
-/* Rank and stop of a block of one entry. What is lent is one entry long in either mode. */
-static bool alone(double entry, bool restart, size_t rank, size_t stop)
+/* Rank, stop and smallest pivot of a block of one entry. What is lent is one entry long in either mode. */
+static bool alone(double entry, bool restart, size_t rank, size_t stop, double smallest)
 {
     uint8_t number = bbfmm_aca_partial_pivoting(
-        1, 1, &entry, 1, 0.5, restart, u, 1, v, 1, row_list, 1, column_list, 1, row, 1, column, 1, LEND(counts), LEND(estimate));
-    return number == BBFMM_DONE && HOLDS(counts, (size_t[]){rank, stop, 1}) && row_list[0] == 0;
+        1, 1, &entry, 1, 0.5, restart, u, 1, v, 1, row_list, 1, column_list, 1, row, 1, column, 1, LEND(counts), LEND(numbers));
+    return number == BBFMM_DONE && HOLDS(counts, (size_t[]){rank, stop, 1}) && same(numbers + 1, &smallest, sizeof smallest) &&
+           row_list[0] == 0;
 }
 
-/* A NaN is a pivot in the old mode only; an infinity, and 2^-52 itself, in both; the float below 2^-52 in none. */
+/* A NaN is a pivot in the old mode only, and is passed over as the smallest; an infinity, and 2^-52 itself, are pivots in both, and
+   are told without their sign; the float below 2^-52 in none. */
 static void test_one_entry(void)
 {
     double none = 0;
-    CHECK(alone(none / none, RESTART, 0, BBFMM_STOP_ALL_TRIED));
-    CHECK(HOLDS(estimate, (double[]){0}) && row[0] != row[0]);
-    CHECK(alone(none / none, OLD, 1, BBFMM_STOP_USED_UP));
-    CHECK(estimate[0] != estimate[0] && u[0] != u[0] && v[0] != v[0] && column_list[0] == 0);
-    CHECK(alone(-1 / none, RESTART, 1, BBFMM_STOP_USED_UP));
-    CHECK(alone(-1 / none, OLD, 1, BBFMM_STOP_USED_UP));
-    CHECK(alone(-0x1p-52, RESTART, 1, BBFMM_STOP_USED_UP));
-    CHECK(u[0] == -0x1p-52 && v[0] == 1 && estimate[0] == 0x1p-104);
-    CHECK(alone(-0x1p-52, OLD, 1, BBFMM_STOP_USED_UP));
-    CHECK(alone(0x1.fffffffffffffp-53, RESTART, 0, BBFMM_STOP_ALL_TRIED));
+    double endless = 1 / none;
+    CHECK(alone(none / none, RESTART, 0, BBFMM_STOP_ALL_TRIED, 0));
+    CHECK(HOLDS(numbers, (double[]){0, 0}) && row[0] != row[0]);
+    CHECK(alone(none / none, OLD, 1, BBFMM_STOP_USED_UP, 0));
+    CHECK(numbers[0] != numbers[0] && u[0] != u[0] && v[0] != v[0] && column_list[0] == 0);
+    CHECK(alone(-endless, RESTART, 1, BBFMM_STOP_USED_UP, endless));
+    CHECK(alone(-endless, OLD, 1, BBFMM_STOP_USED_UP, endless));
+    CHECK(alone(-0x1p-52, RESTART, 1, BBFMM_STOP_USED_UP, 0x1p-52));
+    CHECK(u[0] == -0x1p-52 && v[0] == 1 && numbers[0] == 0x1p-104);
+    CHECK(alone(-0x1p-52, OLD, 1, BBFMM_STOP_USED_UP, 0x1p-52));
+    CHECK(alone(0x1.fffffffffffffp-53, RESTART, 0, BBFMM_STOP_ALL_TRIED, 0));
     CHECK(row[0] == 0x1.fffffffffffffp-53);
-    CHECK(alone(0x1.fffffffffffffp-53, OLD, 0, BBFMM_STOP_SPENT));
+    CHECK(alone(0x1.fffffffffffffp-53, OLD, 0, BBFMM_STOP_SPENT, 0));
+}
+
+/* THE SMALLEST PIVOT is the first or the second; a refused pivot does not count, and a NaN, first or later, is passed over. */
+static void test_smallest(void)
+{
+    double none = 0;
+    double nan = none / none;
+    /* Rows (1,0), (0,-3) and (-3,0), (0,1), in restart mode. */
+    CHECK(called((double[]){1, 0, 0, -3}, 0.1, RESTART) == BBFMM_DONE && counts[0] == 2 && numbers[1] == 1);
+    CHECK(called((double[]){-3, 0, 0, 1}, 0.1, RESTART) == BBFMM_DONE && counts[0] == 2 && numbers[1] == 1);
+    /* Rows (4,0), (0,2^-53): row 1 has no pivot. */
+    CHECK(called((double[]){4, 0, 0, 0x1p-53}, 0.1, RESTART) == BBFMM_DONE && counts[0] == 1 && numbers[1] == 4);
+    /* Rows (2,0), (infinity,0), in the old mode: of row 1 less the first term NaNs are left. And rows (NaN,0), (2,0), where every pivot
+       is a NaN. */
+    CHECK(called((double[]){2, 1 / none, 0, 0}, 0, OLD) == BBFMM_DONE && counts[0] == 2 && numbers[1] == 2);
+    CHECK(called((double[]){nan, 2, 0, 0}, 0, OLD) == BBFMM_DONE && counts[0] == 2 && numbers[1] == 0);
 }
 
 /* FOUR ROWS and two columns: the row list is 2 long in the old mode and 4 in restart mode. A buffer has room for an entry more. */
@@ -243,16 +262,16 @@ static uint16_t tall_columns[3];
 static double tall_row[3];
 static double tall_column[5];
 static size_t tall_counts[4];
-static double tall_estimate[2];
+static double tall_numbers[3];
 
-static const size_t EXACT[2][SLICES] = {{8, 8, 4, 2, 2, 2, 4, 3, 1}, {8, 8, 4, 4, 2, 2, 4, 3, 1}};
+static const size_t EXACT[2][SLICES] = {{8, 8, 4, 2, 2, 2, 4, 3, 2}, {8, 8, 4, 4, 2, 2, 4, 3, 2}};
 
-/* A call that lends so much of each: samples, u, v, lists of rows and columns, row, column, counts, estimate. */
+/* A call that lends so much of each: samples, u, v, lists of rows and columns, row, column, counts, numbers. */
 static uint8_t lent(size_t rows, size_t columns, bool restart, const size_t *lengths)
 {
     return bbfmm_aca_partial_pivoting(
         rows, columns, tall_samples, lengths[0], 0.5, restart, tall_u, lengths[1], tall_v, lengths[2], tall_rows, lengths[3],
-        tall_columns, lengths[4], tall_row, lengths[5], tall_column, lengths[6], tall_counts, lengths[7], tall_estimate, lengths[8]);
+        tall_columns, lengths[4], tall_row, lengths[5], tall_column, lengths[6], tall_counts, lengths[7], tall_numbers, lengths[8]);
 }
 
 static void fill_tall(void)
@@ -265,7 +284,7 @@ static void fill_tall(void)
     FILL(tall_row);
     FILL(tall_column);
     FILL(tall_counts);
-    FILL(tall_estimate);
+    FILL(tall_numbers);
 }
 
 static bool run_kept(void)
@@ -276,7 +295,7 @@ static bool run_kept(void)
 
 static bool tall_kept(void)
 {
-    return run_kept() && KEPT(tall_counts) && KEPT(tall_estimate);
+    return run_kept() && KEPT(tall_counts) && KEPT(tall_numbers);
 }
 
 /* Each slice one entry short, and one long. */
@@ -322,7 +341,7 @@ static uint8_t called_tall(const double *samples, double epsilon)
     fill_tall();
     return bbfmm_aca_partial_pivoting(
         4, 2, samples, 8, epsilon, RESTART, tall_u, 8, tall_v, 4, tall_rows, 4, tall_columns, 2, tall_row, 2, tall_column, 4,
-        tall_counts, 3, tall_estimate, 1);
+        tall_counts, 3, tall_numbers, 2);
 }
 
 /* Rows (0,0), (0,3), (0,0), (0,0). Row 0 has no pivot; row 1 has one, in column 1. Then row 0 would be next, so row 2 is read, which
@@ -332,7 +351,7 @@ static void test_longer_list(void)
     const double samples[8] = {0, 0, 0, 0, 0, 3, 0, 0};
     CHECK(called_tall(samples, 0.5) == BBFMM_DONE);
     CHECK(BEGINS(tall_counts, size_t, 3, 1, BBFMM_STOP_ALL_TRIED, 4));
-    CHECK(BEGINS(tall_estimate, double, 1, 9));
+    CHECK(BEGINS(tall_numbers, double, 2, 9, 3));
     CHECK(BEGINS(tall_u, double, 4, 0, 3, 0, 0));
     CHECK(BEGINS(tall_v, double, 2, 0, 1));
     CHECK(BEGINS(tall_rows, uint16_t, 4, 0, 1, 2, 3));
@@ -349,7 +368,7 @@ static void test_order_of_rows(void)
     const double samples[8] = {1, 1, 3, 2, 0, 1, 0, 1};
     CHECK(called_tall(samples, 0.25) == BBFMM_DONE);
     CHECK(BEGINS(tall_counts, size_t, 3, 2, BBFMM_STOP_USED_UP, 3));
-    CHECK(BEGINS(tall_estimate, double, 1, 17));
+    CHECK(BEGINS(tall_numbers, double, 2, 17, 1));
     CHECK(BEGINS(tall_u, double, 8, 1, 1, 3, 2, 0, 1, 0, 1));
     CHECK(BEGINS(tall_v, double, 4, 1, 0, 0, 1));
     CHECK(BEGINS(tall_rows, uint16_t, 3, 0, 2, 1));
@@ -369,8 +388,8 @@ static void test_three_before_four(void)
     for (size_t k = 0; k < 2; k++) {
         CHECK(bbfmm_aca_partial_pivoting(
             2, 1, LEND(samples), k == 0 ? 0.5 : 1, RESTART, u, 2, v, 1, row_list, 2, column_list, 1, row, 1, column, 2, LEND(counts),
-            LEND(estimate)) == BBFMM_DONE);
-        CHECK(told(1, k == 0 ? BBFMM_STOP_USED_UP : BBFMM_STOP_TOLERABLE, 2, 1));
+            LEND(numbers)) == BBFMM_DONE);
+        CHECK(told(1, k == 0 ? BBFMM_STOP_USED_UP : BBFMM_STOP_TOLERABLE, 2, 1, 1));
         CHECK(HOLDS(row_list, (uint16_t[]){0, 1}) && column_list[0] == 0);
     }
 }
@@ -383,16 +402,16 @@ static void test_nothing_read(size_t rows, size_t columns, bool restart, const s
     fill_tall();
     CHECK(lent(rows, columns, restart, lengths) == BBFMM_DONE);
     CHECK(BEGINS(tall_counts, size_t, 3, 0, BBFMM_STOP_USED_UP, 0));
-    CHECK(BEGINS(tall_estimate, double, 1, 0));
+    CHECK(BEGINS(tall_numbers, double, 2, 0, 0));
     CHECK(run_kept());
 }
 
 /* No rows, no columns, or neither. With no columns the row list of restart mode still has a place for each row. */
 static void test_empty(void)
 {
-    const size_t no_rows[SLICES] = {0, 0, 0, 0, 0, 2, 0, 3, 1};
-    const size_t no_columns[2][SLICES] = {{0, 0, 0, 0, 0, 0, 4, 3, 1}, {0, 0, 0, 4, 0, 0, 4, 3, 1}};
-    const size_t neither[SLICES] = {0, 0, 0, 0, 0, 0, 0, 3, 1};
+    const size_t no_rows[SLICES] = {0, 0, 0, 0, 0, 2, 0, 3, 2};
+    const size_t no_columns[2][SLICES] = {{0, 0, 0, 0, 0, 0, 4, 3, 2}, {0, 0, 0, 4, 0, 0, 4, 3, 2}};
+    const size_t neither[SLICES] = {0, 0, 0, 0, 0, 0, 0, 3, 2};
     for (size_t restart = OLD; restart <= RESTART; restart++) {
         test_nothing_read(0, 2, restart, no_rows);
         test_nothing_read(4, 0, restart, no_columns[restart]);
@@ -415,6 +434,7 @@ void test_aca(void)
     test_used_column();
     test_zeros();
     test_one_entry();
+    test_smallest();
     test_refusals();
     test_longer_list();
     test_order_of_rows();

@@ -44,7 +44,7 @@ static Found compare(size_t count, const size_t *counts)
 static bool run(size_t dimension, size_t order, size_t reference, size_t count, Found *found)
 {
     size_t counts[3];
-    double estimate;
+    double numbers[2];
     size_t points = count * dimension;
     size_t all = count * count;
     if (bbfmm_generate_chebyshev_nodes(order, nodes, order) != BBFMM_DONE) {
@@ -56,7 +56,7 @@ static bool run(size_t dimension, size_t order, size_t reference, size_t count, 
     }
     if (bbfmm_aca_partial_pivoting(
             count, count, block, all, EPSILON, false, u, all, v, all, row_list, count, column_list, count, row, count, column,
-            count, counts, 3, &estimate, 1) != BBFMM_DONE) {
+            count, counts, 3, numbers, 2) != BBFMM_DONE) {
         return false;
     }
     *found = compare(count, counts);

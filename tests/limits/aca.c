@@ -11,7 +11,7 @@ BUFFER(column_list, uint16_t, 1030, 9999);
 BUFFER(row, double, 1030, 7);
 BUFFER(column, double, 1030, 7);
 BUFFER(counts, size_t, 8, 77);
-BUFFER(estimate, double, 8, 7);
+BUFFER(numbers, double, 8, 7);
 
 static size_t count_at(size_t k)
 {
@@ -24,7 +24,7 @@ enum { RUNS = 2 * 6 * 6 * 4 * 4 * 4 * 4 * 4 * 4 * 5 };
 /* Two modes, six rows, six columns, four lengths for all of these, four for each slice of the report. */
 enum { REPORTS = 2 * 6 * 6 * 4 * 4 * 4 };
 
-/* Which lengths are lent: a digit each for u, v, the row list, the column list, row, column, samples, counts and estimate. */
+/* Which lengths are lent: a digit each for u, v, the row list, the column list, row, column, samples, counts and numbers. */
 enum { SLICES = 9, OF_RUN = 7, ROW_LIST = 2, OTHER_MODE = 4 };
 static void take_digits(size_t *k, bool is_run, size_t *digits)
 {
@@ -66,16 +66,16 @@ static Outcome aca_partial_pivoting(size_t k)
     fits = lend(&column, rows, digits[5]) && fits;
     fits = lend(&samples, product(rows, columns), digits[6]) && fits;
     fits = lend(&counts, 3, digits[7]) && fits;
-    fits = lend(&estimate, 1, digits[8]) && fits;
+    fits = lend(&numbers, 2, digits[8]) && fits;
     uint8_t expected = first(unless(rows <= 1024 && columns <= 1024, BBFMM_NO_COUNT), unless(fits, BBFMM_WRONG_LENGTH));
     uint8_t number = bbfmm_aca_partial_pivoting(
         rows, columns, LENT(samples), 0.001, restart, LENT(u), LENT(v), LENT(row_list), LENT(column_list), LENT(row), LENT(column),
-        LENT(counts), LENT(estimate));
+        LENT(counts), LENT(numbers));
     return (Outcome){expected, number, false};
 }
 
 void walk_aca(void)
 {
-    Buffer *const lent[] = {&samples, &u, &v, &row_list, &column_list, &row, &column, &counts, &estimate};
+    Buffer *const lent[] = {&samples, &u, &v, &row_list, &column_list, &row, &column, &counts, &numbers};
     WALK("aca_partial_pivoting", RUNS + REPORTS, aca_partial_pivoting, lent);
 }

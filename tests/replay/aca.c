@@ -51,7 +51,7 @@ void replay_aca(Case c)
 {
     double epsilon;
     size_t counts[3];
-    double estimate[1];
+    double numbers[2];
     size_t columns = c.order;
     size_t most = c.rows < columns ? c.rows : columns;
     size_t listed = up_to(LIST, most);
@@ -63,11 +63,12 @@ void replay_aca(Case c)
     fill();
     uint8_t refusal = bbfmm_aca_partial_pivoting(
         c.rows, columns, samples, area(c.rows, columns), epsilon, c.flag, u, area(c.rows, most), v, area(columns, most), row_list,
-        rows_listed, column_list, listed, row, wide, column, tall, counts, 3, estimate, 1);
+        rows_listed, column_list, listed, row, wide, column, tall, counts, 3, numbers, 2);
     printf("%s %zu %zu:", c.flag ? "restart" : "cross", c.rows, columns);
     if (refusal == 0) {
         printf(" rank %zu stop %zu rows %zu", counts[0], counts[1], counts[2]);
-        put_float(estimate[0]);
+        put_float(numbers[0]);
+        put_float(numbers[1]);
     } else {
         printf(" refused %u", refusal);
     }

@@ -51,5 +51,9 @@ Answer answer_e04_cross;
 Answer answer_e05_ratio;
 Answer answer_e06_read;
 Answer answer_e06_write;
+Answer answer_e08_smallest;
+
+/* The call of a case of E4 or E8: the floats of its report, or null where it is refused. */
+const double *answer_cross(void);
 
 #endif

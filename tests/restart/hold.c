@@ -5,7 +5,7 @@
 
 int printf(const char *format, ...);
 
-enum { PRINTED = 10, COUNTS = 3 };
+enum { PRINTED = 10, COUNTS = 3, NUMBERS = 2 };
 
 /* What stands in a buffer before a call: a float so large that it shows in any sum. */
 static const uint64_t PATTERN = 0xc5a5a5a5a5a5a5a5;
@@ -16,7 +16,7 @@ typedef struct {
     uint16_t row_list[LINE + PAST], column_list[LINE + PAST];
     double row[LINE + PAST], column[LINE + PAST];
     size_t counts[COUNTS + PAST];
-    double estimate[1 + PAST];
+    double numbers[NUMBERS + PAST];
 } Room;
 
 double block[LINE * LINE];
@@ -62,7 +62,7 @@ static void fill(const Question *q, Room *room)
     fill_list(room->column_list, most_terms(q));
     fill_floats(room->row, q->columns);
     fill_floats(room->column, q->rows);
-    fill_floats(room->estimate, 1);
+    fill_floats(room->numbers, NUMBERS);
     for (size_t i = 0; i < COUNTS + PAST; i++) {
         room->counts[i] = PATTERN;
     }
@@ -96,7 +96,7 @@ static void hold_rooms(const Question *q)
             fault(q, i < COUNTS ? NAMES[i] : "changed past the counts", ours.counts[i]);
         }
     }
-    hold_floats(q, "another estimate, or changed past it", ours.estimate, own.estimate, 1);
+    hold_floats(q, "another estimate (0) or smallest pivot (1), or changed past them", ours.numbers, own.numbers, NUMBERS);
     hold_floats(q, "u differs", ours.u, own.u, q->rows * most_terms(q));
     hold_floats(q, "v differs", ours.v, own.v, q->columns * most_terms(q));
     hold_list(q, "the row list differs", ours.row_list, own.row_list, row_list_length(q));
@@ -169,6 +169,10 @@ static void hold_facts(const Question *q)
     } else if (stop == BBFMM_STOP_ALL_TRIED || read > most_terms(q)) {
         fault(q, "the old mode has no such stop, or read too many rows", stop);
     }
+    double smallest = ours.numbers[SMALLEST];
+    if (!(smallest >= 0x1p-52) && (bits_of(smallest) != 0 || (q->restart && rank > 0))) {
+        fault(q, "a smallest pivot that no run has; the rank", rank);
+    }
     tally.stops[q->restart][stop]++;
 }
 
@@ -176,7 +180,7 @@ static void hold_facts(const Question *q)
 
 static struct {
     size_t counts[COUNTS];
-    double estimate;
+    double numbers[NUMBERS];
     uint16_t row_list[LINE], column_list[LINE];
 } old;
 
@@ -204,7 +208,9 @@ static bool missed_nothing(const Question *q)
 
 static void remember(void)
 {
-    old.estimate = ours.estimate[0];
+    for (size_t i = 0; i < NUMBERS; i++) {
+        old.numbers[i] = ours.numbers[i];
+    }
     for (size_t i = 0; i < COUNTS; i++) {
         old.counts[i] = ours.counts[i];
     }
@@ -218,7 +224,7 @@ static void remember(void)
 
 static void hold_as_old(const Question *q)
 {
-    bool is_alike = is_same(ours.estimate[0], old.estimate);
+    bool is_alike = is_same(ours.numbers[ESTIMATE], old.numbers[ESTIMATE]) && is_same(ours.numbers[SMALLEST], old.numbers[SMALLEST]);
     for (size_t i = 0; i < COUNTS; i++) {
         is_alike = is_alike && ours.counts[i] == old.counts[i];
     }
@@ -242,12 +248,12 @@ static uint8_t ask(const Question *q)
     return bbfmm_aca_partial_pivoting(
         q->rows, q->columns, samples, q->rows * q->columns, q->epsilon, q->restart, ours.u, q->rows * most, ours.v, q->columns * most,
         ours.row_list, row_list_length(q), ours.column_list, most, ours.row, q->columns, ours.column, q->rows, ours.counts, COUNTS,
-        ours.estimate, 1);
+        ours.numbers, NUMBERS);
 }
 
 static void try_mode(const Question *q)
 {
-    Memory m = {own.u, own.v, own.row_list, own.column_list, own.row, own.column, own.counts, own.estimate};
+    Memory m = {own.u, own.v, own.row_list, own.column_list, own.row, own.column, own.counts, own.numbers};
     fill(q, &ours);
     fill(q, &own);
     fill_floats(samples, q->rows * q->columns);

@@ -129,6 +129,16 @@ static double cross_of(const Question *q, const Memory *m)
     return sum;
 }
 
+/* The smallest size among the pivots that are numbers, with one more of them; there is none yet where +0.0 stands. */
+static void take_smallest(Memory *m, double pivot)
+{
+    double size = size_of(pivot);
+    bool is_first = m->numbers[SMALLEST] == 0;
+    if (size == size && (is_first || size < m->numbers[SMALLEST])) {
+        m->numbers[SMALLEST] = size;
+    }
+}
+
 static void store(const Question *q, Memory *m, size_t pivot)
 {
     size_t rank = m->counts[RANK];
@@ -162,11 +172,12 @@ static size_t step(const Question *q, Memory *m, size_t *next)
     if (!has_pivot(q, m, pivot)) {
         return q->restart ? go_to_lowest(q, m, next) : BBFMM_STOP_SPENT;
     }
+    take_smallest(m, m->row[pivot]);
     make_lines(q, m, pivot);
     double norm = norm_of(q, m);
-    *m->estimate = *m->estimate + (norm + 2 * cross_of(q, m));
+    m->numbers[ESTIMATE] = m->numbers[ESTIMATE] + (norm + 2 * cross_of(q, m));
     store(q, m, pivot);
-    if (norm <= (q->epsilon * q->epsilon) * *m->estimate) {
+    if (norm <= (q->epsilon * q->epsilon) * m->numbers[ESTIMATE]) {
         return BBFMM_STOP_TOLERABLE;
     }
     if (m->counts[RANK] == most_terms(q)) {
@@ -182,7 +193,8 @@ void follow_rule(const Question *q, Memory *m)
     size_t stop = most_terms(q) == 0 ? BBFMM_STOP_USED_UP : GOES_ON;
     m->counts[RANK] = 0;
     m->counts[READ] = 0;
-    *m->estimate = 0;
+    m->numbers[ESTIMATE] = 0;
+    m->numbers[SMALLEST] = 0;
     while (stop == GOES_ON) {
         stop = step(q, m, &next);
     }

@@ -18,11 +18,12 @@ typedef struct {
     uint16_t *row_list, *column_list;
     double *row, *column;
     size_t *counts;
-    double *estimate;
+    double *numbers;
 } Memory;
 
-/* The places of `counts`. */
+/* The places of `counts`, and of `numbers`. */
 enum { RANK, STOP, READ };
+enum { ESTIMATE, SMALLEST };
 
 /* As many terms as there can be: the rows or the columns, whichever are fewer. */
 size_t most_terms(const Question *q);

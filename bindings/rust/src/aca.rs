@@ -64,6 +64,10 @@ pub struct Report {
     pub rows_read: usize,
     /// The estimate of the approximation's squared norm.
     pub estimate: f64,
+    /// How near to nothing the divisions came: the smallest size among the pivots that rows were
+    /// divided by. A NaN among these is passed over. Where none is a number it is +0.0, and
+    /// otherwise at least 2^-52.
+    pub smallest: f64,
 }
 
 /// The buffers of a cross approximation: of a block of m rows and n columns, with k for the lesser
@@ -122,13 +126,15 @@ pub struct Buffers<'a> {
 /// };
 ///
 /// let report = aca_partial_pivoting(2, 2, &samples, 0.5, Mode::Old, &mut buffers)?;
-/// let expected = Report { rank: 1, stop: Stop::Spent, rows_read: 2, estimate: 1.0 };
+/// let expected =
+///     Report { rank: 1, stop: Stop::Spent, rows_read: 2, estimate: 1.0, smallest: 1.0 };
 /// assert_eq!(report, expected);
 /// assert_eq!(buffers.row_list, [0, 0]);
 /// assert_eq!(buffers.column_list, [0, 9]);
 ///
 /// let report = aca_partial_pivoting(2, 2, &samples, 0.5, Mode::Restart, &mut buffers)?;
-/// let expected = Report { rank: 2, stop: Stop::UsedUp, rows_read: 2, estimate: 2.0 };
+/// let expected =
+///     Report { rank: 2, stop: Stop::UsedUp, rows_read: 2, estimate: 2.0, smallest: 1.0 };
 /// assert_eq!(report, expected);
 /// assert_eq!(buffers.row_list, [0, 1]);
 /// assert_eq!(buffers.column_list, [0, 1]);
@@ -165,9 +171,11 @@ pub struct Buffers<'a> {
 ///
 /// let report = aca_partial_pivoting(3, 1, &samples, 0.5, Mode::Restart, &mut buffers)?;
 /// assert_eq!((report.rank, report.stop, report.rows_read), (1, Stop::UsedUp, 2));
+/// assert_eq!(report.smallest, 3.0);
 ///
 /// let report = aca_partial_pivoting(3, 1, &[0.0; 3], 0.5, Mode::Restart, &mut buffers)?;
 /// assert_eq!((report.rank, report.stop, report.rows_read), (0, Stop::AllTried, 3));
+/// assert_eq!(report.smallest, 0.0);
 /// assert_eq!(row_list, [0, 1, 2]);
 /// assert_eq!(u, [0.0, 3.0, 6.0]);
 /// # Ok::<(), Refusal>(())
@@ -181,7 +189,7 @@ pub fn aca_partial_pivoting(
     buffers: &mut Buffers<'_>,
 ) -> Result<Report, Refusal> {
     let mut counts = [0; 3];
-    let mut estimate = [0.0];
+    let mut numbers = [0.0; 2];
     told(sys::aca_partial_pivoting(
         rows,
         columns,
@@ -190,13 +198,15 @@ pub fn aca_partial_pivoting(
         mode == Mode::Restart,
         buffers,
         &mut counts,
-        &mut estimate,
+        &mut numbers,
     ))?;
     let [rank, stop, rows_read] = counts;
+    let [estimate, smallest] = numbers;
     Ok(Report {
         rank,
         stop: Stop::with_number(stop),
         rows_read,
-        estimate: estimate[0],
+        estimate,
+        smallest,
     })
 }

@@ -254,8 +254,8 @@ unsafe extern "C" {
         column_length: usize,
         counts: *mut usize,
         counts_length: usize,
-        estimate: *mut f64,
-        estimate_length: usize,
+        numbers: *mut f64,
+        numbers_length: usize,
     ) -> u8;
 }
 
@@ -636,7 +636,7 @@ pub(crate) fn aca_partial_pivoting(
     restart: bool,
     buffers: &mut Buffers<'_>,
     counts: &mut [usize; 3],
-    estimate: &mut [f64; 1],
+    numbers: &mut [f64; 2],
 ) -> u8 {
     // SAFETY: nine slices by their pointers and lengths. `samples` is only read; the six of
     // `buffers`, each borrowed mutably, and the two arrays overlap nothing. The bool is Rust's.
@@ -662,8 +662,8 @@ pub(crate) fn aca_partial_pivoting(
             buffers.column.len(),
             counts.as_mut_ptr(),
             counts.len(),
-            estimate.as_mut_ptr(),
-            estimate.len(),
+            numbers.as_mut_ptr(),
+            numbers.len(),
         )
     }
 }

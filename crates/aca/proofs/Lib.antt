@@ -3,4 +3,5 @@ pub mod Answers
 pub mod Facts
 pub mod Before
 pub mod Fresh
+pub mod Smallest
 pub mod Determined

@@ -1,5 +1,5 @@
 -- The rule as it was before there were modes, kept as what the old mode is held to (proofs/Before.antt): a run ends after as many steps
--- as the block can give terms, and no step asks which row comes next.
+-- as the block can give terms, and no step asks which row comes next, or how small a pivot was.
 use Prim.Native.Nat.{ℕ, zero, suc, min}
 use mathlib.Core.Bool.{cond}
 use mathlib.Core.List.{List}

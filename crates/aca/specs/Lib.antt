@@ -1,5 +1,6 @@
 pub mod Answers
 pub mod Runs
 pub mod Before
+pub mod Pivots
 pub mod Facts
 pub mod Working

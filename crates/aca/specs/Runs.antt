@@ -46,10 +46,10 @@ abbrev pub stepsOf : (places terms : ℕ) → ℕ
 stepsOf places terms = cond (eqb terms 0) 0 places
 
 abbrev pub begin : Progress
-begin = record { estimate = zero₆₄; cross = zero₆₄; rank = 0; next = 0 }
+begin = record { estimate = zero₆₄; cross = zero₆₄; smallest = zero₆₄; rank = 0; next = 0 }
 
 abbrev pub reported : (stop : ℕ) → Progress → (rows : ℕ) → Report
-reported w s n = record { rank = s .rank; estimate = s .estimate; stop = w; «rows_read» = n }
+reported w s n = record { rank = s .rank; estimate = s .estimate; smallest = s .smallest; stop = w; «rows_read» = n }
 
 unfoldable pub report : Finish → Report
 report e = reported (e .stop) (e .state) (length (e .found .rows))

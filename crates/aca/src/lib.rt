@@ -4,10 +4,11 @@ mod run;
 
 pub use run::aca_partial_pivoting;
 
-// What the caller is told of a run.
+// What the caller is told of a run; `smallest` is the smallest size among the pivots that were accepted, or +0.0.
 pub struct Report {
     pub rank: usize,
     pub estimate: f64,
+    pub smallest: f64,
     pub stop: u8,
     pub rows_read: usize,
 }

@@ -25,6 +25,7 @@ fn report(stop: u8, s: Progress, rows_read: usize) -> Report
     Report {
         rank: s.rank,
         estimate: s.estimate,
+        smallest: s.smallest,
         stop,
         rows_read,
     }
@@ -76,6 +77,7 @@ fn run(
     let mut s = Progress {
         estimate: 0.0,
         cross: 0.0,
+        smallest: 0.0,
         rank: 0,
         next: 0,
     };

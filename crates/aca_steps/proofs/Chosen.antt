@@ -65,7 +65,7 @@ not-below (fin false m e) (fin false n d) (fin false q c) p h l g =
     let k : T (ltb 0 q) = lt→ltb 0 q (first-pos q (up c) (first-pos (q * up c) (fall d) (omega arith))) in
     le-trans-positive (fin false m e) (fin false n d) (fin false q c) p a k h (cross→le (fin false n d) (fin false q c) a k z)
 
-tiny-above : (x : Float) → le tiny₆₄ x ≡ true → lt zero₆₄ x ≡ true
+pub tiny-above : (x : Float) → le tiny₆₄ x ≡ true → lt zero₆₄ x ≡ true
 unfolding ofBits ofFields odd trailingZeros
 tiny-above x h = above-lt x (above-of-le tiny₆₄ x tt (passes (le tiny₆₄ x) h))
 

@@ -15,8 +15,8 @@ use Rattle.aca_lines.specs.Lines.{residual, rowLess, columnLess, multiplied, no
 use Rattle.aca_lines.specs.declared.Pivot.{Pivot}
 use Rattle.aca_lines.proofs.Largest.{argmax-in}
 use Rattle.common.specs.Matrices.{matrix}
-use Rattle.aca_steps.specs.Crosses.{Block, most, Found, found, unread, rowRead, columnRead, grown, weighed, stored, without, usable}
-use Rattle.aca_steps.specs.Crosses.{judged, outcome, accepted, tried, step}
+use Rattle.aca_steps.specs.Crosses.{Block, most, Found, found, unread, rowRead, columnRead, noted, grown, weighed, stored, without}
+use Rattle.aca_steps.specs.Crosses.{usable, judged, outcome, accepted, tried, step}
 use Rattle.aca_steps.specs.Memories.{Memory, memory, laid, blockOf}
 use Rattle.aca_steps.specs.Standing.{standing, Marks, RowsKnown, Ready, made, Stepped}
 use Rattle.aca_steps.specs.Working.{RowFits, usableHere, Lent, TermFits, TermStored}
@@ -82,12 +82,16 @@ module _ (samples : List Float) (tolerance : Float) (g : Reading) (s : Progress)
     pub place-in : p .place < mostEntries
     place-in = omega (arith, pivot-in, row-long, ready .sizes .wide)
 
-    -- what is lent for the term
+    -- the state with it; and what is lent for the term
+    abbrev with-pivot : Progress
+    with-pivot = noted s (p .size)
+
     abbrev room : Lent
     room = record { us = t .us; vs = t .vs; flags = columns; list = t .«column-list»; row = w; column = t .column }
 
-    pub term-fits : TermFits (length samples) k (p .place) room
-    term-fits =
+    pub term-fits : (s' : Progress) → s' ≡ with-pivot → TermFits (length samples) (s' .rank) (p .place) room
+    term-fits s' e =
+        rw e
         record {
           inside = pivot-in;
           tall = ready .sizes .tall;
@@ -175,7 +179,11 @@ module _ (samples : List Float) (tolerance : Float) (g : Reading) (s : Progress)
         }
 
     -- it has one: the column through it has been read, and the two are stored
-    module _ (r : Step) (l : Lent) (term-is : TermStored samples tolerance restart s (p .place) rows' room r l) where
+    module _ (s' : Progress) (state-is : s' ≡ with-pivot) (r : Step) (l : Lent)
+        (stored-is : TermStored samples tolerance restart s' (p .place) rows' room r l) where
+      term-is : TermStored samples tolerance restart with-pivot (p .place) rows' room r l
+      term-is = subst (λ (q : Progress). TermStored samples tolerance restart q (p .place) rows' room r l) state-is stored-is
+
       abbrev j : ℕ
       j = p .place
 
@@ -206,7 +214,7 @@ module _ (samples : List Float) (tolerance : Float) (g : Reading) (s : Progress)
           rw (← term-is .taken .row-is)
           (ap (found us vs is (js ++ j ∷ []) v) (residual-front m n k j (λ i. matrix m samples i j) (t .us) (t .vs) inside ∙ sym column-is))
 
-      weighed-is : weighed s after-column ≡ grown s (norm x v) (cross k (t .us) (t .vs) x v) (argmax x (isOn rows'))
+      weighed-is : weighed with-pivot after-column ≡ grown with-pivot (norm x v) (cross k (t .us) (t .vs) x v) (argmax x (isOn rows'))
       unfolding weighed
       weighed-is =
           let shared : cross k us vs x v ≡ cross k (t .us) (t .vs) x v = rw (column-long, v-long) at (cross-front k (t .us) (t .vs) x v) in
@@ -215,16 +223,16 @@ module _ (samples : List Float) (tolerance : Float) (g : Reading) (s : Progress)
           rw (shared, rows-are, next)
 
       -- the term is judged by the flags as it is by the rule
-      judged-is : judged restart m (most block) tolerance (norm x v) (unread is) (weighed s after-column) ≡ r
+      judged-is : judged restart m (most block) tolerance (norm x v) (unread is) (weighed with-pivot after-column) ≡ r
       unfolding grown
       judged-is =
           let next : argmax x (isOn rows') < m = rw column-long at (argmax-in x (isOn rows') (rw column-long (ready .known .some))) in
           rw (weighed-is, ← ready .sizes .terms)
           (sym
-          (judged-cong m (isOn rows') (unread is) marked (grown s (norm x v) (cross k (t .us) (t .vs) x v) (argmax x (isOn rows'))) next
-          restart (length (t .«column-list»)) tolerance (norm x v)) ∙ sym (rw column-long at (term-is .answer-is)))
+          (judged-cong m (isOn rows') (unread is) marked
+          (grown with-pivot (norm x v) (cross k (t .us) (t .vs) x v) (argmax x (isOn rows'))) next restart (length (t .«column-list»)) tolerance (norm x v)) ∙ sym (rw column-long at (term-is .answer-is)))
 
-      accepted-is : accepted restart block tolerance s after-column ≡ outcome r (stored after-column)
+      accepted-is : accepted restart block tolerance with-pivot after-column ≡ outcome r (stored after-column)
       unfolding accepted
       accepted-is = ap (λ (a : Step). outcome a (stored after-column)) judged-is
 

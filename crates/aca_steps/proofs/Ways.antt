@@ -15,8 +15,8 @@ use Rattle.aca_lines.specs.Largest.{pivot}
 use Rattle.aca_lines.specs.Lines.{residual, multiplied, norm}
 use Rattle.aca_lines.specs.declared.Pivot.{Pivot}
 use Rattle.aca_lines.proofs.Largest.{argmax-in}
-use Rattle.aca_steps.specs.Crosses.{Block, most, Found, unread, rowRead, columnRead, grown, weighed, stored, tolerable, spent, usedUp}
-use Rattle.aca_steps.specs.Crosses.{allTried, moved, elsewhere, onward, without, usable, judged, accepted, tried, step}
+use Rattle.aca_steps.specs.Crosses.{Block, most, Found, unread, rowRead, columnRead, noted, grown, weighed, stored, tolerable, spent}
+use Rattle.aca_steps.specs.Crosses.{usedUp, allTried, moved, elsewhere, onward, without, usable, judged, accepted, tried, step}
 use Rattle.aca_steps.specs.declared.Progress.{Progress}
 use Rattle.aca_steps.specs.declared.Step.{Step}
 use Rattle.aca_steps.specs.declared.Step.the-variants.{More, Stop}
@@ -24,7 +24,7 @@ use Rattle.aca_steps.specs.declared.Step.the-variants.{More, Stop}
 -- THE PARTS
 
 module _ (b : Block) (s : Progress) (f : Found) where
-  -- the row is read; its pivot; the column through it is read; and the state with one more term
+  -- the row is read; its pivot; the column through it is read; and the state with the pivot and one more term
   abbrev pub across : Found
   across = rowRead b s f
 
@@ -35,7 +35,7 @@ module _ (b : Block) (s : Progress) (f : Found) where
   down = columnRead b s across (chosen .place)
 
   abbrev pub term : Progress
-  term = weighed s down
+  term = weighed (noted s (chosen .size)) down
 
   abbrev pub has : (restart : Bool) → Bool
   has restart = usable restart (across .row) (unread (across .columns)) chosen

@@ -5,9 +5,9 @@ use Prim.Native.Nat.{ℕ, _+_, min}
 use mathlib.Core.Bool.{Bool, true, false, not, cond, _&&_}
 use mathlib.Core.List.{List, [], _∷_, _++_}
 use lib.Dec.{eqb}
-use lib.Ieee.{Float, nan, lt, le, ofBits, binary64}
+use lib.Ieee.{Float, nan, lt, le, isNan, ofBits, binary64}
 use lib.ListN.{length, getD}
-use Rattle.common.specs.Floats.{plus, times, over, one₆₄, two₆₄, size}
+use Rattle.common.specs.Floats.{plus, times, over, zero₆₄, one₆₄, two₆₄, size}
 use Rattle.common.specs.Tests.{any, lowest}
 use Rattle.aca_lines.specs.Largest.{argmax, pivot}
 use Rattle.common.specs.Matrices.{matrix}
@@ -66,12 +66,23 @@ columnRead b s f j =
 
 -- THE TERM
 
+-- The lesser of the smallest size so far and one size more. A NaN is below nothing and is passed over; +0.0 says that there is none so
+-- far, since no pivot that is accepted has a size of 0.
+unfoldable pub lesser : (smallest size : Float) → Float
+lesser a x = cond (lt x a) x (cond (lt zero₆₄ a) a (cond (isNan x) zero₆₄ x))
+
+-- the state when a pivot of this size is accepted
+abbrev pub noted : Progress → (size : Float) → Progress
+noted s x =
+    record { estimate = s .estimate; cross = s .cross; smallest = lesser (s .smallest) x; rank = s .rank; next = s .next }
+
 -- the state after a term with this norm, this cross term and this row to read next
 unfoldable pub grown : Progress → (norm cross : Float) → (next : ℕ) → Progress
 grown s g x i =
     record {
       estimate = plus (s .estimate) (plus g (times two₆₄ x));
       cross = x;
+      smallest = s .smallest;
       rank = s .rank + 1;
       next = i;
     }
@@ -105,7 +116,7 @@ allTried = 4
 
 -- the same state, with another row to read next
 abbrev pub moved : Progress → (next : ℕ) → Progress
-moved s i = record { estimate = s .estimate; cross = s .cross; rank = s .rank; next = i }
+moved s i = record { estimate = s .estimate; cross = s .cross; smallest = s .smallest; rank = s .rank; next = i }
 
 -- at the lowest of m rows that is unread, if there is one
 unfoldable pub elsewhere : (m : ℕ) → (on : ℕ → Bool) → Progress → Step
@@ -155,7 +166,7 @@ accepted restart b tolerance s f =
 unfoldable pub tried : (restart : Bool) → Block → (tolerance : Float) → Progress → Found → Pivot → Outcome
 tried restart b tolerance s f p =
     cond (usable restart (f .row) (unread (f .columns)) p)
-    (accepted restart b tolerance s (columnRead b s f (p .place)))
+    (accepted restart b tolerance (noted s (p .size)) (columnRead b s f (p .place)))
     (outcome (without restart (b .rows) (unread (f .rows)) s) f)
 
 unfoldable pub step : (restart : Bool) → Block → (tolerance : Float) → Progress → Found → Outcome

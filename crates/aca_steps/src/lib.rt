@@ -13,10 +13,12 @@ pub const USED_UP: u8 = 3;
 
 pub const ALL_TRIED: u8 = 4;
 
-// What travels from step to step: the estimate of the squared norm, the last cross term, the rank, and the row to read next.
+// What travels from step to step: the estimate of the squared norm, the last cross term, the smallest size among the pivots that were
+// accepted, the rank, and the row to read next.
 pub struct Progress {
     pub estimate: f64,
     pub cross: f64,
+    pub smallest: f64,
     pub rank: usize,
     pub next: usize,
 }

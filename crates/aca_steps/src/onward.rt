@@ -6,7 +6,8 @@ ghost use Rattle.common.specs.Refusals.{mostEntries};
 ghost use Rattle.aca_lines.specs.Flags.{isOn, cleared};
 ghost use Rattle.aca_lines.specs.Largest.{argmax, pivot};
 ghost use Rattle.aca_lines.specs.Lines.{rowLess};
-ghost use Rattle.aca_steps.specs.Crosses.{grown, elsewhere as elsewhereOf, onward as onwardOf, without as withoutOf, judged};
+ghost use Rattle.aca_steps.specs.Crosses.{lesser as lesserOf, noted, grown, elsewhere as elsewhereOf, onward as onwardOf};
+ghost use Rattle.aca_steps.specs.Crosses.{without as withoutOf, judged};
 ghost use Rattle.aca_steps.specs.Memories.{behind};
 ghost use Rattle.aca_steps.specs.Standing.{RowsKnown, Ready, made, Stepped};
 ghost use Rattle.aca_steps.specs.Working.{RowFits, usableHere, lent, TermFits, ColumnTaken, TermStored};
@@ -46,6 +47,36 @@ fn is_usable(restart: bool, pivot: Pivot, s: Progress, column_flags: &Flags) -> 
         return false;
     }
     !(pivot.size < TINY)
+}
+
+// The lesser of the smallest size so far, of which +0.0 says that there is none, and one size more. A NaN is below nothing. Pivots
+// mostly fall, so that is asked first; 0.0 at the end, and not what was held, keeps the compiler from asking all three at each step.
+fn lesser(smallest: f64, size: f64) -> f64
+    ensures { λ r. ⌜ r ≡ lesserOf smallest size ⌝ }
+{
+    if size < smallest {
+        return size;
+    }
+    if 0.0 < smallest {
+        return smallest;
+    }
+    if size == size {
+        return size;
+    }
+    0.0
+}
+
+// The state with a pivot of this size accepted.
+fn note(s: Progress, size: f64) -> Progress
+    ensures { λ r. ⌜ r ≡ noted s size ⌝ }
+{
+    Progress {
+        estimate: s.estimate,
+        cross: s.cross,
+        smallest: lesser(s.smallest, size),
+        rank: s.rank,
+        next: s.next,
+    }
 }
 
 // Row or column i is used, and is number k of those read.
@@ -117,6 +148,7 @@ fn grow(s: Progress, norm: f64, cross: f64, next: usize) -> Progress
     Progress {
         estimate: s.estimate + (norm + 2.0 * cross),
         cross,
+        smallest: s.smallest,
         rank: s.rank + 1,
         next,
     }
@@ -134,6 +166,7 @@ fn elsewhere(low: usize, rows: usize, row_flags: &Flags, s: Progress) -> Step
     Step::More(Progress {
         estimate: s.estimate,
         cross: s.cross,
+        smallest: s.smallest,
         rank: s.rank,
         next,
     })
@@ -276,12 +309,13 @@ pub fn advance(
     if !is_usable(reading.restart, pivot, s, column_flags) {
         return without(reading, rows, row_flags, s);
     }
+    let with_pivot = note(s, pivot.size);
     let j = pivot.place;
     accept(
         samples,
         tolerance,
         reading,
-        s,
+        with_pivot,
         j,
         u,
         v,

@@ -137,7 +137,7 @@ module _ (values : List Float) (epsilon : Float) (place : List ℕ) (r r' : ℕ 
   bbfmm-calculate-singular-values-cutoff-determined = coincide r r' (cutoffTold values epsilon place)
 
 module _ (rows columns : ℕ) (samples : List Float) (epsilon : Float) (restart : Bool) (lent : Memory) (counts : List ℕ)
-    (estimate : List Float) (r r' : Crossed) where
-  bbfmm-aca-partial-pivoting-determined : r ≡ crossTold rows columns samples epsilon restart lent counts estimate →
-      r' ≡ crossTold rows columns samples epsilon restart lent counts estimate → r ≡ r'
-  bbfmm-aca-partial-pivoting-determined = coincide r r' (crossTold rows columns samples epsilon restart lent counts estimate)
+    (numbers : List Float) (r r' : Crossed) where
+  bbfmm-aca-partial-pivoting-determined : r ≡ crossTold rows columns samples epsilon restart lent counts numbers →
+      r' ≡ crossTold rows columns samples epsilon restart lent counts numbers → r ≡ r'
+  bbfmm-aca-partial-pivoting-determined = coincide r r' (crossTold rows columns samples epsilon restart lent counts numbers)

@@ -18,29 +18,29 @@ use Rattle.aca.specs.Answers.{told}
 use Rattle.aca.specs.declared.Report.{Report}
 use Rattle.aca.specs.declared.Approximation.{Approximation}
 use Rattle.bbfmm.specs.Answers.{withLength}
-use Rattle.bbfmm.specs.Told.{countsOf, reportFits, crossNumber, crossed, crossTold}
+use Rattle.bbfmm.specs.Told.{countsOf, numbersOf, reportFits, crossNumber, crossed, crossTold}
 use Rattle.bbfmm.specs.Working.{reportTold, unfitNumber}
 use Rattle.bbfmm.proofs.Lengths.{with-fit}
 
 -- what is told of a report, or of a refusal, is told of the number and the report
 report-told : (n : ℕ) (r : Report) (c : List ℕ) (e : List Float) →
-    reportTold (answer n r) c e ≡ (n, left n (countsOf r) c, left n (r .estimate ∷ []) e)
+    reportTold (answer n r) c e ≡ (n, left n (countsOf r) c, left n (numbersOf r) e)
 unfolding reportTold
-report-told zero r c e = rw (left-done 0 (countsOf r) c refl, left-done 0 (r .estimate ∷ []) e refl)
+report-told zero r c e = rw (left-done 0 (countsOf r) c refl, left-done 0 (numbersOf r) e refl)
 report-told (suc n) r c e =
     let no : suc n ≡ 0 → ⊥ = λ z. omega arith in
-    rw (left-refused (suc n) (countsOf r) c no, left-refused (suc n) (r .estimate ∷ []) e no)
+    rw (left-refused (suc n) (countsOf r) c no, left-refused (suc n) (numbersOf r) e no)
 
 -- slices fit, or one of them does not
 module _ (c : List ℕ) (e : List Float) where
-  pub fit-both : length c ≡ 3 → length e ≡ 1 → reportFits c e ≡ true
-  fit-both h h' = rw (eq-eqb (length c) 3 h, eq-eqb (length e) 1 h')
+  pub fit-both : length c ≡ 3 → length e ≡ 2 → reportFits c e ≡ true
+  fit-both h h' = rw (eq-eqb (length c) 3 h, eq-eqb (length e) 2 h')
 
   pub unfit-counts : (length c ≡ 3 → ⊥) → reportFits c e ≡ false
   unfit-counts h = rw (ne-eqb (length c) 3 h)
 
-  pub unfit-estimate : length c ≡ 3 → (length e ≡ 1 → ⊥) → reportFits c e ≡ false
-  unfit-estimate h h' = rw (eq-eqb (length c) 3 h, ne-eqb (length e) 1 h')
+  pub unfit-numbers : length c ≡ 3 → (length e ≡ 2 → ⊥) → reportFits c e ≡ false
+  unfit-numbers h h' = rw (eq-eqb (length c) 3 h, ne-eqb (length e) 2 h')
 
 module _ (m n : ℕ) (a : List Float) (epsilon : Float) (restart : Bool) (t : Memory) (c : List ℕ) (e : List Float) where
   -- slices that do not fit: too many rows or columns are refused first, and nothing is written
@@ -63,7 +63,7 @@ module _ (m n : ℕ) (a : List Float) (epsilon : Float) (restart : Bool) (t : Me
       rw (
         left-refused number (laid (end .found) t) t no,
         left-refused number (countsOf (report end)) c no,
-        left-refused number (report end .estimate ∷ []) e no,
+        left-refused number (numbersOf (report end)) e no,
         h,
         unfit-is f,
       )
@@ -80,6 +80,6 @@ module _ (m n : ℕ) (a : List Float) (epsilon : Float) (restart : Bool) (t : Me
       let tells : told r ≡ answer own (report end) = ap (λ (x : Call). x .tells) h in
       let leaves : t' ≡ left own (laid (end .found) t) t = ap (λ (x : Call). x .leaves) h in
       let whole : _≡_ {A = ℕ × List ℕ × List Float} (number, c', e')
-      (own, left own (countsOf (report end)) c, left own (report end .estimate ∷ []) e) =
+      (own, left own (countsOf (report end)) c, left own (numbersOf (report end)) e) =
       g ∙ ap (λ (x : ℕ × Option Report). reportTold x c e) tells ∙ report-told own (report end) c e in
       rw (same, leaves) (ap (λ (x : ℕ × List ℕ × List Float). crossed (x .0) (left own (laid (end .found) t) t) (x .1) (x .2)) whole)

@@ -46,16 +46,19 @@ argmaxTold l mask = written (argmaxNumber l mask) (argmax l (counts mask) ∷ []
 unfoldable pub cutoffTold : (values : List Float) → (epsilon : Float) → (place : List ℕ) → ℕ × List ℕ
 cutoffTold l epsilon = written (cutoffNumber l) (cutoff l epsilon ∷ [])
 
--- CROSS APPROXIMATION: its report in two slices, of three numbers and of one float
+-- CROSS APPROXIMATION: its report in two slices, of three whole numbers and of two floats
 
 abbrev pub countsOf : Report → List ℕ
 countsOf r = r .rank ∷ r .stop ∷ r .«rows_read» ∷ []
 
-abbrev pub reportFits : (counts : List ℕ) → (estimate : List Float) → Bool
-reportFits c e = eqb (length c) 3 && eqb (length e) 1
+abbrev pub numbersOf : Report → List Float
+numbersOf r = r .estimate ∷ r .smallest ∷ []
+
+abbrev pub reportFits : (counts : List ℕ) → (numbers : List Float) → Bool
+reportFits c e = eqb (length c) 3 && eqb (length e) 2
 
 unfoldable pub crossNumber : (restart : Bool) → (m n : ℕ) → (samples : List Float) → Memory → (counts : List ℕ) →
-    (estimate : List Float) → ℕ
+    (numbers : List Float) → ℕ
 crossNumber restart m n a t c e = withLength (acaNumber restart m n (lengths a t)) (reportFits c e)
 
 -- the number, the memory of the run, and both slices
@@ -63,14 +66,14 @@ pub record Crossed : Type 0 where
   pub number : ℕ
   pub leaves : Memory
   pub counts : List ℕ
-  pub estimate : List Float
+  pub numbers : List Float
 
-abbrev pub crossed : (number : ℕ) → Memory → (counts : List ℕ) → (estimate : List Float) → Crossed
-crossed n t c e = record { number = n; leaves = t; counts = c; estimate = e }
+abbrev pub crossed : (number : ℕ) → Memory → (counts : List ℕ) → (numbers : List Float) → Crossed
+crossed n t c e = record { number = n; leaves = t; counts = c; numbers = e }
 
 unfoldable pub crossTold : (m n : ℕ) → (samples : List Float) → (epsilon : Float) → (restart : Bool) → Memory → (counts : List ℕ) →
-    (estimate : List Float) → Crossed
+    (numbers : List Float) → Crossed
 crossTold m n a epsilon restart t c e =
     let f = approximation m n a epsilon restart t in
     let number = crossNumber restart m n a t c e in
-    crossed number (left number (laid (f .found) t) t) (left number (countsOf (report f)) c) (left number (report f .estimate ∷ []) e)
+    crossed number (left number (laid (f .found) t) t) (left number (countsOf (report f)) c) (left number (numbersOf (report f)) e)

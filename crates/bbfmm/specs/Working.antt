@@ -9,7 +9,7 @@ use lib.ListN.{length}
 use Rattle.common.specs.Refusals.{noCount, wrongLength, unless, mostEntries}
 use Rattle.aca.specs.declared.Report.{Report}
 use Rattle.bbfmm.specs.Answers.{withLength, written}
-use Rattle.bbfmm.specs.Told.{countsOf}
+use Rattle.bbfmm.specs.Told.{countsOf, numbersOf}
 use Rattle.bbfmm.specs.Exchanged.{withLine}
 
 -- what a call tells, a number and perhaps a place, in a lent answer
@@ -21,11 +21,11 @@ unfoldable pub placeTold : ℕ × Option ℕ → (answer : List ℕ) → ℕ × 
 placeTold x = placeOrNone (x .0) (x .1)
 
 -- a number and perhaps a report, in slices that fit
-abbrev pub reportOrNone : (number : ℕ) → Option Report → (counts : List ℕ) → (estimate : List Float) → ℕ × List ℕ × List Float
+abbrev pub reportOrNone : (number : ℕ) → Option Report → (counts : List ℕ) → (numbers : List Float) → ℕ × List ℕ × List Float
 reportOrNone n none c e = (n, c, e)
-reportOrNone n (some r) c e = (n, countsOf r, r .estimate ∷ [])
+reportOrNone n (some r) c e = (n, countsOf r, numbersOf r)
 
-unfoldable pub reportTold : ℕ × Option Report → (counts : List ℕ) → (estimate : List Float) → ℕ × List ℕ × List Float
+unfoldable pub reportTold : ℕ × Option Report → (counts : List ℕ) → (numbers : List Float) → ℕ × List ℕ × List Float
 reportTold x = reportOrNone (x .0) (x .1)
 
 -- the number of a call whose report does not fit: too many rows or columns are refused first

@@ -22,10 +22,10 @@ fn unfit_number(rows: usize, columns: usize) -> u8
 }
 
 // A report in the lent slices, or a refusal.
-fn tell_report(made: Approximation, counts: &mut [usize], estimate: &mut [f64]) -> u8
-    requires { ⌜ (length (now counts) ≡ 3) × (length (now estimate) ≡ 1) ⌝ }
-    ensures { λ r. ⌜ (r, now (counts .exit), now (estimate .exit))
-        ≡ reportTold (told made) (now (counts .entry)) (now (estimate .entry)) ⌝ }
+fn tell_report(made: Approximation, counts: &mut [usize], numbers: &mut [f64]) -> u8
+    requires { ⌜ (length (now counts) ≡ 3) × (length (now numbers) ≡ 2) ⌝ }
+    ensures { λ r. ⌜ (r, now (counts .exit), now (numbers .exit))
+        ≡ reportTold (told made) (now (counts .entry)) (now (numbers .entry)) ⌝ }
 {
     match made {
         Approximation::Refused(number) => number,
@@ -33,14 +33,15 @@ fn tell_report(made: Approximation, counts: &mut [usize], estimate: &mut [f64]) 
             counts[0] = report.rank;
             counts[1] = report.stop as usize;
             counts[2] = report.rows_read;
-            estimate[0] = report.estimate;
+            numbers[0] = report.estimate;
+            numbers[1] = report.smallest;
             0
         }
     }
 }
 
 // The block as U times the transpose of V, with the rows and columns that were read for it, in either mode; rank, stop and rows read
-// in `counts`.
+// in `counts`, the estimate and the smallest pivot's size in `numbers`.
 #[no_mangle]
 pub extern "C" fn bbfmm_aca_partial_pivoting(
     rows: usize,
@@ -55,18 +56,18 @@ pub extern "C" fn bbfmm_aca_partial_pivoting(
     row: &mut [f64],
     column: &mut [f64],
     counts: &mut [usize],
-    estimate: &mut [f64],
+    numbers: &mut [f64],
 ) -> u8
     ensures { λ r. ⌜ crossed r (behind (u .exit) (v .exit) («row_list» .exit) («column_list» .exit) (row .exit) (column .exit))
-        (now (counts .exit)) (now (estimate .exit))
+        (now (counts .exit)) (now (numbers .exit))
         ≡ crossTold rows columns (now (samples .entry)) epsilon «restart»
         (behind (u .entry) (v .entry) («row_list» .entry) («column_list» .entry) (row .entry) (column .entry))
-        (now (counts .entry)) (now (estimate .entry)) ⌝ }
+        (now (counts .entry)) (now (numbers .entry)) ⌝ }
 {
     if counts.len() != 3 {
         return unfit_number(rows, columns);
     }
-    if estimate.len() != 1 {
+    if numbers.len() != 2 {
         return unfit_number(rows, columns);
     }
     let made = aca_partial_pivoting(
@@ -82,5 +83,5 @@ pub extern "C" fn bbfmm_aca_partial_pivoting(
         row,
         column,
     );
-    tell_report(made, counts, estimate)
+    tell_report(made, counts, numbers)
 }

@@ -1,7 +1,7 @@
 -- The fixed results hold: each is computed from the definitions. Assumes nothing.
 use mathlib.Core.Path.{refl}
 use lib.Count.{trailingZeros}
-use lib.Ieee.{add, sub, mul, div, neg, lt, le, ofBits, ofFields, ofInt, odd, units, round, sum, size as digits, span, climb}
+use lib.Ieee.{add, sub, mul, div, neg, lt, le, isNan, ofBits, ofFields, ofInt, odd, units, round, sum, size as digits, span, climb}
 use Rattle.common.specs.Digits.{fromDigits, digit}
 use Rattle.common.specs.Floats.{size, sums}
 use Rattle.common.specs.Matrices.{columnMajor}
@@ -18,8 +18,8 @@ use Rattle.transfer.specs.Tensor.{passed, directed, operatorHalf, along, ends, 
 use Rattle.aca_lines.specs.Largest.{best, argmax, pivot, counts}
 use Rattle.choices.specs.Argmax.{isMask, argmaxNumber, argmaxCall}
 use Rattle.aca_lines.specs.Lines.{residual, multiplied, norm, cross}
-use Rattle.aca_steps.specs.Crosses.{unread, rowRead, columnRead, grown, weighed, stored, onward, without, usable, judged, accepted, tried}
-use Rattle.aca_steps.specs.Crosses.{step}
+use Rattle.aca_steps.specs.Crosses.{unread, rowRead, columnRead, lesser, grown, weighed, stored, onward, without, usable, judged}
+use Rattle.aca_steps.specs.Crosses.{accepted, tried, step}
 use Rattle.choices.specs.Cutoff.{squares, firstBelow, cutoff, cutoffNumber, cutoffCall}
 use Rattle.aca_steps.specs.Memories.{laid}
 use Rattle.aca.specs.Runs.{followed, run, report, fits, acaNumber, approximation, acaCall}
@@ -30,9 +30,8 @@ unfolding fromDigits digit sums columnMajor left each those count factorial skip
     atMost near isReference references entry farReference referenceOf reversed negative axisOf placeOf turnedIndex turned returnedIndex
     returned tableNumber tableCall lookUpNumber knownOf lookUp T T′ polynomialsNumber polynomialsCall passed directed operatorHalf along
     ends transferNumber transferred transferCall size best argmax pivot counts isMask argmaxNumber argmaxCall residual multiplied unread
-    rowRead columnRead norm cross grown weighed onward without usable judged stored accepted tried step squares firstBelow cutoff
-    cutoffNumber cutoffCall
-    followed run report laid fits acaNumber approximation acaCall trailingZeros add sub mul div neg lt le ofBits ofFields ofInt odd units
+    rowRead columnRead norm cross lesser grown weighed onward without usable judged stored accepted tried step squares firstBelow
+    cutoff cutoffNumber cutoffCall followed run report laid fits acaNumber approximation acaCall trailingZeros add sub mul div neg lt le isNan ofBits ofFields ofInt odd units
     round sum digits span climb
 fixed =
     record {

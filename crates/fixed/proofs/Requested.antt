@@ -1,7 +1,8 @@
 -- What the requests fix holds: each row is computed from the definitions. Assumes nothing.
 use mathlib.Core.Path.{refl}
 use lib.Count.{trailingZeros}
-use lib.Ieee.{add, sub, mul, div, neg, lt, eq, le, whole, ofInt, ofBits, ofFields, odd, units, round, sum, size as digits, span, climb}
+use lib.Ieee.{add, sub, mul, div, neg, lt, eq, le, whole, isNan, ofInt, ofBits, ofFields, odd, units, round, sum, size as digits}
+use lib.Ieee.{span, climb}
 use Rattle.common.specs.Floats.{size, sums}
 use Rattle.common.specs.Refusals.{isCell, left, lower}
 use Rattle.common.specs.Digits.{digit}
@@ -19,21 +20,21 @@ use Rattle.exchange_format.specs.Writing.{wholeOf, wholes, writing}
 use Rattle.exchange_format.specs.Calls.{sizeCall, readCall, writeCall}
 use Rattle.aca_lines.specs.Largest.{best, argmax, pivot}
 use Rattle.aca_lines.specs.Lines.{residual, multiplied, norm, cross}
-use Rattle.aca_steps.specs.Crosses.{unread, rowRead, columnRead, grown, weighed, stored, elsewhere, onward, without, usable, judged}
-use Rattle.aca_steps.specs.Crosses.{accepted, tried, step}
+use Rattle.aca_steps.specs.Crosses.{unread, rowRead, columnRead, lesser, grown, weighed, stored, elsewhere, onward, without, usable}
+use Rattle.aca_steps.specs.Crosses.{judged, accepted, tried, step}
 use Rattle.aca_steps.specs.Memories.{laid}
 use Rattle.aca.specs.Runs.{followed, run, report, fits, acaNumber, approximation, acaCall}
 use Rattle.fixed.specs.Requests.{Requested}
 
 pub requested : Requested
 unfolding size isCell each allFinite coordinateIn inCell allInCell pointsNumber floorRoot nearestRoot root added digit references entry
-    isReference those sums best argmax pivot residual multiplied norm cross any lowest unread rowRead columnRead grown weighed stored
-    elsewhere onward without usable judged accepted tried step followed run report laid fits acaNumber approximation acaCall left
+    isReference those sums best argmax pivot residual multiplied norm cross any lowest unread rowRead columnRead lesser grown
+    weighed stored elsewhere onward without usable judged accepted tried step followed run report laid fits acaNumber approximation acaCall left
     lengthsFit coefficientsNumber coefficientsCall lower ratios.deficiency ratios.ratio ratios.airOf ratios.isFloor ratios.floorNumber
     ratios.lengthsFit ratios.lengthsNumber ratios.orLast ratios.ratiosNumber ratios.ratiosCall
     onto lines before from past all same small isFirst isPassed valueFrom numeral sizeOf entryOf entries sizeLine opening verdict reading
     whole wholeOf wholes writing sizeCall readCall writeCall
-    trailingZeros add sub mul div neg lt eq le ofInt ofBits ofFields odd units round sum digits span climb
+    trailingZeros add sub mul div neg lt eq le isNan ofInt ofBits ofFields odd units round sum digits span climb
 requested =
     record {
       border-passes = refl;
@@ -55,6 +56,9 @@ requested =
       nan-restarted = λ x i. refl;
       nan-old = λ x i. refl;
       seven-squared = λ x i. refl;
+      smallest-second = λ x i. refl;
+      smallest-negative = λ x i. refl;
+      smallest-infinite = λ x i. refl;
       goaf-ratio = refl;
       fresh-ratio = refl;
       fresh-none = refl;

@@ -14,7 +14,8 @@ use Rattle.ratios.specs.declared.air.Air.the-variants.{Ratio, Unusable, Fresh}
 use Rattle.exchange_format.specs.Lines.{newline}
 use Rattle.exchange_format.specs.Words.{banner, kind, Size}
 use Rattle.exchange_format.specs.Calls.{sizeCall, readCall, writeCall}
-use Rattle.aca_steps.specs.Memories.{memory}
+use Rattle.aca_steps.specs.Crosses.{tiny₆₄}
+use Rattle.aca_steps.specs.Memories.{Memory, memory}
 use Rattle.aca.specs.Runs.{call, acaCall}
 use Rattle.fixed.specs.Results.{two, four, lent}
 
@@ -57,6 +58,10 @@ past-most = 57 ∷ 48 ∷ 48 ∷ 55 ∷ 49 ∷ 57 ∷ 57 ∷ 50 ∷ 53 ∷ 52 �
 abbrev pub one-by-one : Option Size
 one-by-one = some (record { rows = 1; columns = 1 })
 
+-- the memory that is lent for a block of one entry
+abbrev pub one : (x : Float) (i : ℕ) → Memory
+one x i = memory (x ∷ []) (x ∷ []) (i ∷ []) (i ∷ []) (x ∷ []) (x ∷ [])
+
 pub record Requested : Type 0 where
   -- E1: in a cell of side 2 about 0, a point at 1 + 2 ^ -20 passes, on either side; at the next float it is refused with 11
   pub border-passes : pointsNumber 1 1 two₆₄ (zero₆₄ ∷ []) (border ∷ []) ≡ 0
@@ -78,29 +83,55 @@ pub record Requested : Type 0 where
   -- E4, restart mode at 0.5: rows (1,0),(0,1) give rank 2, rows 0,1, columns 0,1, stop 3
   pub unit-restarted : (x : Float) (i : ℕ) →
       acaCall 2 2 (four one₆₄ zero₆₄ zero₆₄ one₆₄) half₆₄ true (lent x i)
-      ≡ call (0, some (record { rank = 2; estimate = two₆₄; stop = 3; «rows_read» = 2 }))
+      ≡ call (0, some (record { rank = 2; estimate = two₆₄; smallest = one₆₄; stop = 3; «rows_read» = 2 }))
       (memory (four one₆₄ zero₆₄ zero₆₄ one₆₄) (four one₆₄ zero₆₄ zero₆₄ one₆₄) (two 0 1) (two 0 1) (two zero₆₄ one₆₄) (two zero₆₄ one₆₄))
   -- rows (0,0),(1,0) give rank 1, rows 0,1, column 0, stop 4
   pub low-restarted : (x : Float) (i : ℕ) →
       acaCall 2 2 (four zero₆₄ one₆₄ zero₆₄ zero₆₄) half₆₄ true (lent x i)
-      ≡ call (0, some (record { rank = 1; estimate = one₆₄; stop = 4; «rows_read» = 2 }))
+      ≡ call (0, some (record { rank = 1; estimate = one₆₄; smallest = one₆₄; stop = 4; «rows_read» = 2 }))
       (memory (four zero₆₄ one₆₄ x x) (four one₆₄ zero₆₄ x x) (two 0 1) (two 0 i) (two one₆₄ zero₆₄) (two zero₆₄ one₆₄))
   -- the block (NaN) gives rank 0, row 0, stop 4; and in the old mode rank 1, stop 3
   pub nan-restarted : (x : Float) (i : ℕ) →
-      acaCall 1 1 (nan ∷ []) half₆₄ true (memory (x ∷ []) (x ∷ []) (i ∷ []) (i ∷ []) (x ∷ []) (x ∷ []))
-      ≡ call (0, some (record { rank = 0; estimate = zero₆₄; stop = 4; «rows_read» = 1 }))
+      acaCall 1 1 (nan ∷ []) half₆₄ true (one x i)
+      ≡ call (0, some (record { rank = 0; estimate = zero₆₄; smallest = zero₆₄; stop = 4; «rows_read» = 1 }))
       (memory (x ∷ []) (x ∷ []) (0 ∷ []) (i ∷ []) (nan ∷ []) (x ∷ []))
   pub nan-old : (x : Float) (i : ℕ) →
-      acaCall 1 1 (nan ∷ []) half₆₄ false (memory (x ∷ []) (x ∷ []) (i ∷ []) (i ∷ []) (x ∷ []) (x ∷ []))
-      ≡ call (0, some (record { rank = 1; estimate = nan; stop = 3; «rows_read» = 1 }))
+      acaCall 1 1 (nan ∷ []) half₆₄ false (one x i)
+      ≡ call (0, some (record { rank = 1; estimate = nan; smallest = zero₆₄; stop = 3; «rows_read» = 1 }))
       (memory (nan ∷ []) (nan ∷ []) (0 ∷ []) (0 ∷ []) (nan ∷ []) (nan ∷ []))
   -- Rows (49,0),(0,0). 49 times 1/49 falls short of 1 by 2 ^ -53, so the first term leaves something of row 0. The old mode reads that
   -- row again, and takes column 0 twice. Restart mode reads row 1, which has nothing in column 1: rank 1, rows 0,1, column 0, stop 4.
   pub seven-squared : (x : Float) (i : ℕ) →
       acaCall 2 2 (four (float 49) zero₆₄ zero₆₄ zero₆₄) half₆₄ true (lent x i)
-      ≡ call (0, some (record { rank = 1; estimate = ofBits binary64 0x40a2c1ffffffffff; stop = 4; «rows_read» = 2 }))
+      ≡ call
+      (0, some (record { rank = 1; estimate = ofBits binary64 0x40a2c1ffffffffff; smallest = float 49; stop = 4; «rows_read» = 2 }))
       (memory (four (float 49) zero₆₄ x x) (four (ofBits binary64 0x3fefffffffffffff) zero₆₄ x x) (two 0 1) (two 0 i)
       (two zero₆₄ zero₆₄) (two (float 49) zero₆₄))
+  -- E8: the same block in the old mode; the second pivot is 2 ^ -47, and that is the smallest
+  pub smallest-second : (x : Float) (i : ℕ) →
+      acaCall 2 2 (four (float 49) zero₆₄ zero₆₄ zero₆₄) half₆₄ false (lent x i)
+      ≡ call (
+        0,
+        some (record {
+          rank = 2;
+          estimate = ofBits binary64 0x40a2c20000000001;
+          smallest = ofBits binary64 0x3d00000000000000;
+          stop = 1;
+          «rows_read» = 2;
+        }),
+      )
+      (memory (four (float 49) zero₆₄ (ofBits binary64 0x3d00000000000000) zero₆₄)
+      (four (ofBits binary64 0x3fefffffffffffff) zero₆₄ one₆₄ zero₆₄) (two 0 0) (two 0 0) (two one₆₄ zero₆₄)
+      (two (ofBits binary64 0x3d00000000000000) zero₆₄))
+  -- a pivot of -2 ^ -52 is told without its sign, in restart mode; an infinite one is told, in the old mode
+  pub smallest-negative : (x : Float) (i : ℕ) →
+      acaCall 1 1 (neg tiny₆₄ ∷ []) half₆₄ true (one x i)
+      ≡ call (0, some (record { rank = 1; estimate = ofBits binary64 0x3970000000000000; smallest = tiny₆₄; stop = 3; «rows_read» = 1 }))
+      (memory (neg tiny₆₄ ∷ []) (one₆₄ ∷ []) (0 ∷ []) (0 ∷ []) (one₆₄ ∷ []) (neg tiny₆₄ ∷ []))
+  pub smallest-infinite : (x : Float) (i : ℕ) →
+      acaCall 1 1 (inf true ∷ []) half₆₄ false (one x i)
+      ≡ call (0, some (record { rank = 1; estimate = nan; smallest = inf false; stop = 3; «rows_read» = 1 }))
+      (memory (inf true ∷ []) (nan ∷ []) (0 ∷ []) (0 ∷ []) (nan ∷ []) (inf true ∷ []))
   -- E5: the old goaf has a ratio, 0.046; fresh air has one, 0.641, over a floor near 0, and none over a floor of 1/10
   pub goaf-ratio : oldGoaf (airOf tenth) ≡ Ratio (ofBits binary64 0x3fa7a17a17a17a16)
   pub fresh-ratio : freshAir (airOf millionth) ≡ Ratio (ofBits binary64 0x3fe4834834834445)

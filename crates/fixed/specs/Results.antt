@@ -72,15 +72,15 @@ pub record Fixed : Type 0 where
   -- rows (2,4),(1,2): epsilon 1 gives rank 1, U (4,2), V (0.5,1), estimate 25, stop 1
   pub cross-1 : (x : Float) (i : ℕ) →
       acaCall 2 2 (four two₆₄ one₆₄ (float 4) two₆₄) one₆₄ false (lent x i)
-      ≡ call (0, some (record { rank = 1; estimate = float 25; stop = 1; «rows_read» = 1 }))
+      ≡ call (0, some (record { rank = 1; estimate = float 25; smallest = float 4; stop = 1; «rows_read» = 1 }))
       (memory (four (float 4) two₆₄ x x) (four half₆₄ one₆₄ x x) (two 0 i) (two 1 i) (two half₆₄ one₆₄) (two (float 4) two₆₄))
   -- epsilon 0.5 gives the same factors, rows 0,1, stop 2
   pub cross-half : (x : Float) (i : ℕ) →
       acaCall 2 2 (four two₆₄ one₆₄ (float 4) two₆₄) half₆₄ false (lent x i)
-      ≡ call (0, some (record { rank = 1; estimate = float 25; stop = 2; «rows_read» = 2 }))
+      ≡ call (0, some (record { rank = 1; estimate = float 25; smallest = float 4; stop = 2; «rows_read» = 2 }))
       (memory (four (float 4) two₆₄ x x) (four half₆₄ one₆₄ x x) (two 0 1) (two 1 i) (two zero₆₄ zero₆₄) (two (float 4) two₆₄))
   -- rows (1,0),(0,1), epsilon 0.5: rank 1, rows 0,0, column 0, stop 2
   pub cross-unit : (x : Float) (i : ℕ) →
       acaCall 2 2 (four one₆₄ zero₆₄ zero₆₄ one₆₄) half₆₄ false (lent x i)
-      ≡ call (0, some (record { rank = 1; estimate = one₆₄; stop = 2; «rows_read» = 2 }))
+      ≡ call (0, some (record { rank = 1; estimate = one₆₄; smallest = one₆₄; stop = 2; «rows_read» = 2 }))
       (memory (four one₆₄ zero₆₄ x x) (four one₆₄ zero₆₄ x x) (two 0 0) (two 0 i) (two zero₆₄ zero₆₄) (two one₆₄ zero₆₄))

@@ -217,6 +217,7 @@ fn the_large_block_is_answered_as_by_the_rust() {
     let report = asked.call(&mut lent).expect("all lengths fit");
     assert_eq!((report.rank, report.stop.number()), (5, 2));
     assert_eq!(report.estimate, 10_736_176.0);
+    assert_eq!(report.smallest, 1.0);
     assert_eq!(lent.lists[0][..report.rows_read], [0, 1, 2, 3, 4, 9]);
     assert_eq!(lent.lists[1][..report.rank], [0, 1, 2, 3, 4]);
     assert_eq!(checksum(&lent.floats[0][..5 * 1_024]), 697_652_880);

@@ -100,12 +100,13 @@ fn crossed<const N: usize>(
 }
 
 /// A report by what it tells.
-fn told(rank: usize, stop: Stop, rows_read: usize, estimate: f64) -> Report {
+fn told(rank: usize, stop: Stop, rows_read: usize, estimate: f64, smallest: f64) -> Report {
     Report {
         rank,
         stop,
         rows_read,
         estimate,
+        smallest,
     }
 }
 
@@ -113,12 +114,12 @@ fn told(rank: usize, stop: Stop, rows_read: usize, estimate: f64) -> Report {
 fn crosses() {
     let terms = [vec![4.0, 2.0], vec![0.5, 1.0]];
     let block = [[2.0, 4.0], [1.0, 2.0]];
-    let report = told(1, Stop::Tolerable, 1, 25.0);
+    let report = told(1, Stop::Tolerable, 1, 25.0, 4.0);
     assert_eq!(
         crossed(block, 1.0, Mode::Old),
         (report, terms.clone(), [[0, 9], [1, 9]])
     );
-    let report = told(1, Stop::Spent, 2, 25.0);
+    let report = told(1, Stop::Spent, 2, 25.0, 4.0);
     assert_eq!(
         crossed(block, 0.5, Mode::Old),
         (report, terms, [[0, 1], [1, 9]])
@@ -133,13 +134,13 @@ fn crosses() {
 fn restarted_crosses() {
     let unit = [[1.0, 0.0], [0.0, 1.0]];
     let terms = vec![1.0, 0.0, 0.0, 1.0];
-    let report = told(2, Stop::UsedUp, 2, 2.0);
+    let report = told(2, Stop::UsedUp, 2, 2.0, 1.0);
     assert_eq!(
         crossed(unit, 0.5, Mode::Restart),
         (report, [terms.clone(), terms], [[0, 1], [0, 1]])
     );
     let below_zeros = [[0.0, 0.0], [1.0, 0.0]];
-    let report = told(1, Stop::AllTried, 2, 1.0);
+    let report = told(1, Stop::AllTried, 2, 1.0, 1.0);
     assert_eq!(
         crossed(below_zeros, 0.5, Mode::Restart),
         (report, [vec![0.0, 1.0], vec![1.0, 0.0]], [[0, 1], [0, 9]])
@@ -152,7 +153,7 @@ fn restarted_crosses() {
 fn forty_nine_is_read_once() {
     let block = [[49.0, 0.0], [0.0, 0.0]];
     let below_one = 1.0 - 2f64.powi(-53);
-    let report = told(1, Stop::AllTried, 2, 2401.0 - 2f64.powi(-41));
+    let report = told(1, Stop::AllTried, 2, 2401.0 - 2f64.powi(-41), 49.0);
     assert_eq!(
         crossed(block, 0.5, Mode::Restart),
         (
@@ -163,13 +164,14 @@ fn forty_nine_is_read_once() {
     );
     let (report, _, lists) = crossed(block, 0.5, Mode::Old);
     assert_eq!((report.rank, report.stop), (2, Stop::Tolerable));
+    assert_eq!(report.smallest, 2f64.powi(-47));
     assert_eq!(lists, [[0, 0], [0, 0]]);
 }
 
-/// A NaN is no pivot in restart mode, and one in the old mode.
+/// A NaN is no pivot in restart mode, and one in the old mode, where it is passed over as the smallest.
 #[test]
 fn a_nan_is_a_pivot_in_the_old_mode_only() {
-    let report = told(0, Stop::AllTried, 1, 0.0);
+    let report = told(0, Stop::AllTried, 1, 0.0, 0.0);
     let (found, terms, lists) = crossed([[f64::NAN]], 0.5, Mode::Restart);
     assert_eq!((found, lists), (report, [[0], [9]]));
     assert_eq!(found.estimate.to_bits(), 0);
@@ -177,6 +179,7 @@ fn a_nan_is_a_pivot_in_the_old_mode_only() {
     let (found, _, lists) = crossed([[f64::NAN]], 0.5, Mode::Old);
     assert_eq!((found.rank, found.stop), (1, Stop::UsedUp));
     assert!(found.estimate.is_nan());
+    assert_eq!(found.smallest.to_bits(), 0);
     assert_eq!(lists, [[0], [0]]);
 }
 

@@ -101,7 +101,10 @@ fn report_is_ruled(report: Report, run: &Run, stop: u8) {
     assert_eq!(report.stop.number(), stop);
     assert_eq!(report.rows_read, run.rows.len());
     assert!(
-        same_floats(&[report.estimate], &[run.estimate]),
+        same_floats(
+            &[report.estimate, report.smallest],
+            &[run.estimate, run.smallest.unwrap_or(0.0)]
+        ),
         "{report:?}"
     );
 }

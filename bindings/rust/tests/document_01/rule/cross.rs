@@ -47,6 +47,8 @@ pub struct Run {
     pub rows: Vec<usize>,
     pub columns: Vec<usize>,
     pub estimate: f64,
+    /// The smallest size among the pivots that were accepted and are numbers.
+    pub smallest: Option<f64>,
     /// The row and the column that were last worked on.
     pub row: Vec<f64>,
     pub column: Vec<f64>,
@@ -84,6 +86,9 @@ impl Run {
             return None;
         }
         let pivot = self.row[j];
+        let sizes = [self.smallest, Some(pivot.abs())];
+        let numbers = sizes.into_iter().flatten().filter(|size| !size.is_nan());
+        self.smallest = numbers.reduce(f64::min);
         self.row.iter_mut().for_each(|entry| *entry *= 1.0 / pivot);
         Some(j)
     }

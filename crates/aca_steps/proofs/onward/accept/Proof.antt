@@ -83,7 +83,7 @@ same-length-2 : tie.Need-same-length-2
 same-length-2 c = search needs
 
 same-length-3 : tie.Need-same-length-3
-same-length-3 c = search needs
+same-length-3 c = list-same (column-taken (normed (crossed (stored c))))
 
 same-length-4 : tie.Need-same-length-4
 same-length-4 c = search needs

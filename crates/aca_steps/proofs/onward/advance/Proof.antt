@@ -11,8 +11,11 @@ use Rattle.aca_steps.proofs.onward.advance.Tie as tie
 abbrev accepted : tie.After-slice-known13 → tie.After-accept
 accepted c = c .before .before .before .before .before .before .before .before .before .before
 
-abbrev pivoted : tie.After-accept → tie.Else1
-pivoted c = c .before .before .before .before .before .before .before .before
+abbrev noted : tie.After-accept → tie.After-note
+noted c = c .before .before .before .before .before .before .before .before
+
+abbrev pivoted : tie.After-note → tie.Else1
+pivoted c = c .before
 
 abbrev row-taken' : tie.Else1 → tie.After-take-row
 row-taken' c = c .before .before .before .before .before .before .before
@@ -68,13 +71,17 @@ returns c =
     (r .ensures .1 .0) (r .ensures .0) (r .ensures .1 .1 .0) (r .ensures .1 .1 .1) _
     (sym (i .before .is-usable .ensures) ∙ of-not _ true (i .if1 .taken)) (c .without .ensures)
 
+note-requires : tie.Need-note-requires
+note-requires c κs = search needs
+
 accept-requires : tie.Need-accept-requires
 accept-requires c κs =
-    let t = row-taken' (c .before .before .before .before .before .before .before) in
+    let n = c .before .before .before .before .before .before .before in
+    let t = row-taken' (pivoted n) in
     let r = t .take-row in
     let s = start t in (
       term-fits (s .args .samples .now) (s .args .tolerance) (s .args .reading) (s .args .s) _ _ _ (s .pre) _ _ _ _
-          (r .ensures .1 .0) (r .ensures .0) (r .ensures .1 .1 .0) (r .ensures .1 .1 .1),
+          (r .ensures .1 .0) (r .ensures .0) (r .ensures .1 .1 .0) (r .ensures .1 .1 .1) _ (n .note .ensures),
       known (s .args .samples .now) (s .args .tolerance) (s .args .reading) (s .args .s) _ _ _ (s .pre) _ _ _ _
           (r .ensures .1 .0) (r .ensures .0) (r .ensures .1 .1 .0) (r .ensures .1 .1 .1),
     )
@@ -100,12 +107,13 @@ same-length-10 c = search needs
 returns-2 : tie.Need-returns-2
 returns-2 c =
     let a = accepted c in
-    let p = pivoted a in
+    let n = noted a in
+    let p = pivoted n in
     let r = row-taken' p .take-row in
     let s = start (row-taken' p) in
     went-on (s .args .samples .now) (s .args .tolerance) (s .args .reading) (s .args .s) _ _ _ (s .pre) _ _ _ _
     (r .ensures .1 .0) (r .ensures .0) (r .ensures .1 .1 .0) (r .ensures .1 .1 .1)
-    _ _ (a .accept .ensures) (sym (p .before .is-usable .ensures) ∙ of-not _ false (p .if1 .left))
+    _ (n .note .ensures) _ _ (a .accept .ensures) (sym (p .before .is-usable .ensures) ∙ of-not _ false (p .if1 .left))
 
 pub advance-spec : {M : Type 1} → statement M
 advance-spec =
@@ -119,6 +127,7 @@ advance-spec =
     same-length-3
     same-length-4
     returns
+    note-requires
     accept-requires
     same-length-5
     same-length-6

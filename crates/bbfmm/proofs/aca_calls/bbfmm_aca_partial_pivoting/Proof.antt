@@ -5,7 +5,7 @@ use mathlib.Core.List.{List}
 use Prim.Native.Nat.{ℕ}
 use lib.Ieee.{Float}
 use Rattle.aca_steps.specs.Memories.{Memory, memory}
-use Rattle.bbfmm.proofs.Reports.{fit-both, unfit-counts, unfit-estimate, cross-unfit, cross-fit}
+use Rattle.bbfmm.proofs.Reports.{fit-both, unfit-counts, unfit-numbers, cross-unfit, cross-fit}
 use Rattle.bbfmm.proofs.aca_calls.bbfmm_aca_partial_pivoting.Statement.{statement}
 use Rattle.bbfmm.proofs.aca_calls.bbfmm_aca_partial_pivoting.Tie as tie
 
@@ -32,8 +32,8 @@ module _ (s : tie.Start) where
   abbrev counts : List ℕ
   counts = s .args .counts .now
 
-  abbrev estimate : List Float
-  estimate = s .args .estimate .now
+  abbrev numbers : List Float
+  numbers = s .args .numbers .now
 
 abbrev after : tie.After-aca-partial-pivoting → Memory
 after c =
@@ -52,8 +52,8 @@ returns : tie.Need-returns
 returns c =
     let s = start' (c .before) in
     let a = s .args in
-    cross-unfit (a .rows) (a .columns) (a .samples .now) (a .epsilon) (a .restart) (lent s) (counts s) (estimate s)
-    (c .unfit-number .result) (c .unfit-number .ensures) (unfit-counts (counts s) (estimate s) (c .before .if1 .taken))
+    cross-unfit (a .rows) (a .columns) (a .samples .now) (a .epsilon) (a .restart) (lent s) (counts s) (numbers s)
+    (c .unfit-number .result) (c .unfit-number .ensures) (unfit-counts (counts s) (numbers s) (c .before .if1 .taken))
 
 unfit-number-requires-2 : tie.Need-unfit-number-requires-2
 unfit-number-requires-2 c κs = search needs
@@ -63,8 +63,8 @@ returns-2 c =
     let o = c .before .before in
     let s = start o in
     let a = s .args in
-    cross-unfit (a .rows) (a .columns) (a .samples .now) (a .epsilon) (a .restart) (lent s) (counts s) (estimate s)
-    (c .unfit-number2 .result) (c .unfit-number2 .ensures) (unfit-estimate (counts s) (estimate s) (o .if1 .left) (c .before .if2 .taken))
+    cross-unfit (a .rows) (a .columns) (a .samples .now) (a .epsilon) (a .restart) (lent s) (counts s) (numbers s)
+    (c .unfit-number2 .result) (c .unfit-number2 .ensures) (unfit-numbers (counts s) (numbers s) (o .if1 .left) (c .before .if2 .taken))
 
 aca-partial-pivoting-requires : tie.Need-aca-partial-pivoting-requires
 aca-partial-pivoting-requires c κs = search needs
@@ -104,9 +104,9 @@ returns-3 c =
     let s = start (f .before) in
     let a = s .args in
     let t = told .tell-report in
-    cross-fit (a .rows) (a .columns) (a .samples .now) (a .epsilon) (a .restart) (lent s) (counts s) (estimate s)
+    cross-fit (a .rows) (a .columns) (a .samples .now) (a .epsilon) (a .restart) (lent s) (counts s) (numbers s)
     (m .aca-partial-pivoting .result) (after m) (t .result) (t .last .1 .0) (t .last .1 .1 .0)
-    (fit-both (counts s) (estimate s) (f .before .if1 .left) (f .if2 .left)) (m .aca-partial-pivoting .ensures) (t .ensures)
+    (fit-both (counts s) (numbers s) (f .before .if1 .left) (f .if2 .left)) (m .aca-partial-pivoting .ensures) (t .ensures)
 
 pub bbfmm-aca-partial-pivoting-spec : {M : Type 1} → statement M
 bbfmm-aca-partial-pivoting-spec =

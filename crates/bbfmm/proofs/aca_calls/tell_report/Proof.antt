@@ -3,7 +3,7 @@ use borrow.Author.Needs.{needs}
 use native.Mathlib.Omega.{arith}
 use lib.ListN.{length-set}
 use Rattle.bbfmm.specs.Working.{reportTold}
-use Rattle.bbfmm.proofs.Lengths.{stored-one, stored-three}
+use Rattle.bbfmm.proofs.Lengths.{stored-two, stored-three}
 use Rattle.bbfmm.proofs.aca_calls.tell_report.Statement.{statement}
 use Rattle.bbfmm.proofs.aca_calls.tell_report.Tie as tie
 
@@ -25,8 +25,11 @@ slice-write-counts-2 c = simp length-set (omega (arith, c .before .before .befor
 slice-write-counts-3 : tie.Need-slice-write-counts-3
 slice-write-counts-3 c = simp length-set (omega (arith, c .before .before .before .before .pre .0))
 
-slice-write-estimate : tie.Need-slice-write-estimate
-slice-write-estimate c = omega (arith, c .before .before .before .before .pre .1)
+slice-write-numbers : tie.Need-slice-write-numbers
+slice-write-numbers c = omega (arith, c .before .before .before .before .pre .1)
+
+slice-write-numbers-2 : tie.Need-slice-write-numbers-2
+slice-write-numbers-2 c = simp length-set (omega (arith, c .before .before .before .before .pre .1))
 
 returns : tie.Need-returns
 unfolding reportTold
@@ -45,8 +48,7 @@ returns-2 c =
     rw (
       c .before .before .made2 .given .1,
       stored-three (s .args .counts .now) _ _ _ (s .pre .0),
-      stored-one (s .args .estimate .now) _
-          (s .pre .1),
+      stored-two (s .args .numbers .now) _ _ (s .pre .1),
     )
 
 pub tell-report-spec : {M : Type 1} → statement M
@@ -59,7 +61,8 @@ tell-report-spec =
     cast-counts
     slice-write-counts-2
     slice-write-counts-3
-    slice-write-estimate
+    slice-write-numbers
+    slice-write-numbers-2
     returns
     same-length
     same-length-2

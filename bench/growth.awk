@@ -31,6 +31,8 @@ function frame(panel,    k) {
     }
     words = name[panel]
     sub(/_chebyshev/, "", words)
+    # The two calls in turn have a name that is wider than a panel.
+    sub(/scale_points and get_approximation_coefficients/, "scaling and coefficients", words)
     text(across(panel, 10 ^ 4), down(panel, 10 ^ 10) - 8, 10, "middle", "black", words)
 }
 

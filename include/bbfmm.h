@@ -11,9 +11,9 @@
  * their own, by lines, and answer a line too. Each call ends, whatever it is given.
  *
  * BUFFERS. A buffer is two arguments: a pointer to its first entry, and how many entries it has. A const buffer is only read. The
- * lengths below are exact, but for texts: any other is refused with BBFMM_WRONG_LENGTH. What no call can test, the caller sees to: a pointer is
- * not null, even where the length is 0, is aligned for its type, and has so many entries behind it; no buffer that is written
- * overlaps another of the call; a bool is true or false.
+ * lengths below are exact, but for texts: any other is refused with BBFMM_WRONG_LENGTH. What no call can test, the caller sees to:
+ * a pointer is not null, even where the length is 0, is aligned for its type, and has so many entries behind it; no buffer that is
+ * written overlaps another of the call; a bool is true or false.
  *
  * MATRICES are column-major: with R rows, the entry of row i and column j stands at i + j * R.
  *
@@ -45,9 +45,9 @@ enum {
     BBFMM_NOT_ZERO = 6,     /* an entry of a vector past the first D is not 0 */
     BBFMM_WRONG_LENGTH = 7, /* a buffer has not its length */
     BBFMM_NO_CELL = 8,      /* a cell's length is not from 2^-20 to 2^30 */
-    BBFMM_NOT_FINITE = 9,   /* a coordinate of a point or of the centre is not finite */
+    BBFMM_NOT_FINITE = 9,   /* a coordinate of a point, of the centre or of reference coordinates is not finite */
     BBFMM_NO_MASK = 10,     /* a byte of a mask is not 0 or 1 */
-    BBFMM_OUT_OF_CELL = 11, /* a reference coordinate of a point is above 1 + 2^-20 in size */
+    BBFMM_OUT_OF_CELL = 11, /* a point that is to be scaled has a reference coordinate above 1 + 2^-20 in size */
     BBFMM_NO_FLOOR = 12,    /* the floor of a ratio map is not a finite number above 0 */
     BBFMM_NO_FIRST_LINE = 13, /* a Matrix Market text has not the first line that is read */
     BBFMM_NO_SIZE = 14,     /* it has no size line, or a size is not 0 to 1,024 */
@@ -213,23 +213,38 @@ uint8_t bbfmm_sample_distances(
 /* COEFFICIENTS */
 
 /*
- * What each node of a cell of this length counts for at points in it, of which there are P = rows, at most 4,096; and, if wanted,
- * how that changes along each axis.
+ * Coefficients take two calls: the first scales points, the second takes what the first leaves. Values, then gradients, at the same
+ * points need one scaling. What is scaled already must not be scaled again: it would be taken for other points. If the second call
+ * refuses, the points stay scaled.
+ */
+
+/*
+ * Scales points in a cell of this length, of which there are P = rows, at most 4,096. None is scaled before all are known to pass.
  * centre: D entries.
- * node_polynomials: p by p. Column k has T_k at the nodes.
  * points: P by D, a row a point. They become reference coordinates, (point - centre) / (length * 0.5), from -1 to 1 in the cell.
- * A point with one above 1 + 2^-20 in size does not belong to the cell.
+ *     A point with one above 1 + 2^-20 in size does not belong to the cell.
+ * Refuses with 1, 3, 7, 8, 9, 11.
+ */
+uint8_t bbfmm_scale_points(
+    size_t dimension, size_t rows, double length, const double *centre, size_t centre_length, double *points,
+    size_t points_length);
+
+/*
+ * What each node of a cell counts for at points, of which there are P = rows, at most 4,096; and, if wanted, how that changes along
+ * each axis. The points are given by reference coordinates, and the slopes are along the axes of the cell itself: for these the call
+ * needs the cell's length. Without gradients the length is not looked at, and may be any float.
+ * node_polynomials: p by p. Column k has T_k at the nodes.
+ * coordinates: P by D, a row a point, as bbfmm_scale_points leaves them. A coordinate outside the cell is taken.
  * values: P by N. Column n becomes what node n counts for.
  * gradients: P by D * N with gradients, else 0 entries. Column g * N + n becomes the slope of that along axis g.
  * factors: P by D * p, room to work in. Column a * p + n becomes the share of index n on axis a.
  * slopes: P by D * p with gradients, else 0 entries, room to work in. Column a * p + n becomes the slope of that share.
- * Refuses with 1, 2, 3, 7, 8, 9, 11.
+ * Refuses with 1, 2, 3, 7, 8, 9, of which 8 with gradients only.
  */
 uint8_t bbfmm_get_approximation_coefficients(
-    size_t dimension, size_t order, double length, size_t rows, bool with_gradients, const double *centre, size_t centre_length,
-    const double *node_polynomials, size_t node_polynomials_length, double *points, size_t points_length, double *values,
-    size_t values_length, double *gradients, size_t gradients_length, double *factors, size_t factors_length, double *slopes,
-    size_t slopes_length);
+    size_t dimension, size_t order, size_t rows, bool with_gradients, double length, const double *node_polynomials,
+    size_t node_polynomials_length, const double *coordinates, size_t coordinates_length, double *values, size_t values_length,
+    double *gradients, size_t gradients_length, double *factors, size_t factors_length, double *slopes, size_t slopes_length);
 
 /* RATIO MAPS */
 
@@ -241,10 +256,11 @@ uint8_t bbfmm_get_approximation_coefficients(
  * are no points.
  * centre: D entries.
  * node_polynomials: p by p. Column k has T_k at the nodes.
- * points: P by D, a row a point. They become reference coordinates, as bbfmm_get_approximation_coefficients leaves them.
+ * points: P by D, a row a point, not yet scaled. They become reference coordinates, as bbfmm_scale_points leaves them.
  * carbon_monoxide, nitrogen, oxygen: N entries each, the expansions of CO, N2 and O2.
  * values: P by N. Column n becomes what node n counts for.
- * factors: P by D * p, room to work in. They and the values become what that call leaves without gradients.
+ * factors: P by D * p, room to work in. They and the values become what bbfmm_get_approximation_coefficients leaves there without
+ *     gradients.
  * answers: P entries. Each becomes a BBFMM_AIR. A deficiency that is not finite gives BBFMM_AIR_UNUSABLE. Then one below the floor
  *     gives BBFMM_AIR_FRESH, whatever the carbon monoxide is. Then a ratio, (100*CO) / deficiency, that is not finite gives
  *     BBFMM_AIR_UNUSABLE, and any other gives BBFMM_AIR_RATIO. So a deficiency that equals the floor can have a ratio.

@@ -9,7 +9,7 @@ int memcmp(const void *left, const void *right, size_t bytes);
 void *malloc(size_t bytes);
 void *calloc(size_t count, size_t bytes);
 
-enum { CALLS = 27, SIZES = 3, NUMBERS = 1000, NODES = 4096 };
+enum { CALLS = 30, SIZES = 3, NUMBERS = 1000, NODES = 4096, GIVEN = 16384 };
 
 static const size_t DIMENSIONS[SIZES] = {1, 2, 3};
 static const size_t ORDERS[SIZES] = {2, 8, 16};
@@ -21,7 +21,8 @@ static const size_t ROOTS[SIZES] = {1, 100, NUMBERS};
 static const size_t SAMPLED_ORDERS[SIZES] = {2, 8, 10};
 static const int32_t VECTORS[SIZES][3] = {{-2, 0, 0}, {0, -2, 0}, {0, -2, 1}};
 
-/* What the calls are given, and what they write: the results of one side stand in one stretch, so that two sides can be compared. */
+/* What the calls are given, and what they write: the results of one side stand in one stretch, so that two sides can be compared. Points
+   alone are scaled where they are given. */
 static double *given;
 static double *nodes;
 static double *polynomials;
@@ -84,9 +85,11 @@ static void make(size_t call, size_t size)
     size_t order = call == 15 ? SAMPLED_ORDERS[size] : ORDERS[size];
     size_t count = COUNTS[size];
     size_t each = power(order, 3) * 4096;
-    written_count = call == 17 ? 4 * each + 500000 : call == 16 || call == 20 ? each + 500000 : 2400000;
+    bool has_values = call == 17 || call == 21 || call == 23;
+    bool has_gradients = call == 18 || call == 22;
+    written_count = has_gradients ? 4 * each + 500000 : has_values ? each + 500000 : 2400000;
     table_count = 8192;
-    given = malloc(16384 * sizeof *given);
+    given = malloc(GIVEN * sizeof *given);
     nodes = malloc(16 * sizeof *nodes);
     polynomials = malloc(256 * sizeof *polynomials);
     samples = malloc(count * count * sizeof *samples);
@@ -94,7 +97,7 @@ static void make(size_t call, size_t size)
     mask = malloc(count);
     written = calloc(written_count, sizeof *written);
     table = calloc(table_count, sizeof *table);
-    for (size_t k = 0; k < 16384; k++) {
+    for (size_t k = 0; k < GIVEN; k++) {
         given[k] = (double)(k * 7919 % 10007) / 5003.5 - 1;
     }
     bbfmm_generate_chebyshev_nodes(order, nodes, order);
@@ -110,7 +113,7 @@ static void make(size_t call, size_t size)
         numbers[k] = normal(k);
     }
     make_air();
-    if (call >= 25) {
+    if (call >= 28) {
         make_text(count);
     }
 }
@@ -136,10 +139,27 @@ static void polynomials_at(bool ours, size_t size, bool with_derivatives)
                 p, rows, given, rows, with_derivatives, tn, p * rows, dtn, with_derivatives ? p * rows : 0);
 }
 
-/* The cell lies about the origin and has side 2, so that scaling leaves the points as they are, call after call. */
-static void coefficients(bool ours, size_t size, bool with_gradients)
+/* The cell lies about the origin and has side 2, so that scaling leaves the points as they are, call after call. The number is kept,
+   since where a point is refused nothing else is there to compare. */
+static void scale(bool ours, size_t d, size_t rows)
 {
     static const double centre[3] = {0, 0, 0};
+    answer[0] = (ours ? bbfmm_scale_points : plain_scale_points)(d, rows, 2, centre, d, given, d * rows);
+}
+
+/* Points of which the very last coordinate is at fault: not finite, or out of the cell. So one call makes every test of the points but
+   the last, and the other that too. */
+static void refused(bool ours, size_t size, double last)
+{
+    size_t d = DIMENSIONS[size];
+    size_t rows = MANY_POINTS[size];
+    given[d * rows - 1] = last;
+    scale(ours, d, rows);
+}
+
+/* The points lie between -1 and 1: they are reference coordinates as they are. */
+static void coefficients(bool ours, size_t size, bool with_gradients)
+{
     size_t d = DIMENSIONS[size];
     size_t p = ORDERS[size];
     size_t rows = CELL_POINTS[size];
@@ -150,20 +170,15 @@ static void coefficients(bool ours, size_t size, bool with_gradients)
     double *of_values = slopes + (with_gradients ? axes : 0);
     double *gradients = of_values + n;
     (ours ? bbfmm_get_approximation_coefficients : plain_get_approximation_coefficients)(
-                d, p, 2, rows, with_gradients, centre, d, polynomials, p * p, given, d * rows, of_values, n, gradients,
-            with_gradients ? d * n : 0, factors, axes, slopes, with_gradients ? axes : 0);
+        d, p, rows, with_gradients, 2, polynomials, p * p, given, d * rows, of_values, n, gradients, with_gradients ? d * n : 0,
+        factors, axes, slopes, with_gradients ? axes : 0);
 }
 
-/* One node, and points of which the very last coordinate is at fault: not finite, or out of the cell. So one call makes every test
-   of the points but the last, and the other that too. */
-static void refused(bool ours, size_t size, double last)
+/* What one call did before they were two. */
+static void pair(bool ours, size_t size, bool with_gradients)
 {
-    static const double centre[3] = {0, 0, 0};
-    size_t d = DIMENSIONS[size];
-    size_t rows = MANY_POINTS[size];
-    given[d * rows - 1] = last;
-    (ours ? bbfmm_get_approximation_coefficients : plain_get_approximation_coefficients)(
-                d, 1, 2, rows, false, centre, d, polynomials, 1, given, d * rows, written, rows, 0, 0, written, d * rows, 0, 0);
+    scale(ours, DIMENSIONS[size], CELL_POINTS[size]);
+    coefficients(ours, size, with_gradients);
 }
 
 /* As many points as for the coefficients. The answers stand where else a table does. */
@@ -329,16 +344,19 @@ static void once(bool ours, size_t call, size_t size)
     case 13: points(ours, size, true); break;
     case 14: roots(ours, size); break;
     case 15: sample(ours, size); break;
-    case 16: coefficients(ours, size, false); break;
-    case 17: coefficients(ours, size, true); break;
-    case 18: refused(ours, size, 1e308 * 10); break;
-    case 19: refused(ours, size, 2); break;
-    case 20: map(ours, size); break;
-    case 21: choose(ours, size, false); break;
-    case 22: choose(ours, size, true); break;
-    case 23: cross(ours, size, false); break;
-    case 24: cross(ours, size, true); break;
-    case 25: exchange(ours, size, false); break;
+    case 16: scale(ours, d, CELL_POINTS[size]); break;
+    case 17: coefficients(ours, size, false); break;
+    case 18: coefficients(ours, size, true); break;
+    case 19: refused(ours, size, 1e308 * 10); break;
+    case 20: refused(ours, size, 2); break;
+    case 21: pair(ours, size, false); break;
+    case 22: pair(ours, size, true); break;
+    case 23: map(ours, size); break;
+    case 24: choose(ours, size, false); break;
+    case 25: choose(ours, size, true); break;
+    case 26: cross(ours, size, false); break;
+    case 27: cross(ours, size, true); break;
+    case 28: exchange(ours, size, false); break;
     default: exchange(ours, size, true); break;
     }
 }
@@ -347,13 +365,15 @@ static bool is_alike(size_t call, size_t size)
 {
     make(call, size);
     once(true, call, size);
+    double *ours_given = given;
     double *ours_written = written;
     uint16_t *ours_table = table;
     size_t ours_answer[4] = {answer[0], answer[1], answer[2], answer[3]};
     int32_t ours_vector[3] = {vector[0], vector[1], vector[2]};
     make(call, size);
     once(false, call, size);
-    return memcmp(ours_written, written, written_count * sizeof *written) == 0 &&
+    return memcmp(ours_given, given, GIVEN * sizeof *given) == 0 &&
+           memcmp(ours_written, written, written_count * sizeof *written) == 0 &&
            memcmp(ours_table, table, table_count * sizeof *table) == 0 && memcmp(ours_answer, answer, sizeof answer) == 0 &&
            memcmp(ours_vector, vector, sizeof vector) == 0;
 }

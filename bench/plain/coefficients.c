@@ -1,4 +1,4 @@
-/* Coefficients: S and S' of each axis, and columns that are their products. */
+/* Points scaled; and coefficients at reference coordinates: S and S' of each axis, and columns that are their products. */
 #include "plain.h"
 
 /* The sums of a node's column become S, or S'. */
@@ -21,6 +21,23 @@ static void fill_axis(
         }
         for (size_t i = 0; i < rows; i++) {
             column[i] = is_slope ? (column[i] * share) * per_side : (column[i] * 2 - 1) / (double)order;
+        }
+    }
+}
+
+/* The same for every axis. Values and gradients hold the polynomials and their derivatives meanwhile. */
+static void fill_axes(
+    size_t dimension, size_t order, size_t rows, bool with_gradients, double side, const double *restrict node_polynomials,
+    const double *restrict coordinates, double *restrict values, double *restrict gradients, double *restrict factors,
+    double *restrict slopes)
+{
+    size_t each = order * rows;
+    for (size_t axis = 0; axis < dimension; axis++) {
+        plain_evaluate_chebyshev_polynomials(
+            order, rows, coordinates + axis * rows, rows, with_gradients, values, each, gradients, with_gradients ? each : 0);
+        fill_axis(order, rows, values, node_polynomials, false, side, factors + axis * each);
+        if (with_gradients) {
+            fill_axis(order, rows, gradients, node_polynomials, true, side, slopes + axis * each);
         }
     }
 }
@@ -76,23 +93,17 @@ static void fill_columns(
     }
 }
 
-uint8_t plain_get_approximation_coefficients(
-    size_t dimension, size_t order, double side, size_t rows, bool with_gradients, const double *restrict centre,
-    size_t centre_length, const double *restrict node_polynomials, size_t node_polynomials_length, double *restrict points,
-    size_t points_length, double *restrict values, size_t values_length, double *restrict gradients, size_t gradients_length,
-    double *restrict factors, size_t factors_length, double *restrict slopes, size_t slopes_length)
+uint8_t plain_scale_points(
+    size_t dimension, size_t rows, double side, const double *restrict centre, size_t centre_length, double *restrict points,
+    size_t points_length)
 {
-    if (of_shape(dimension, order) != 0) {
-        return of_shape(dimension, order);
+    if (dimension < 1 || dimension > 3) {
+        return BBFMM_NO_DIMENSION;
     }
     if (rows > 4096) {
         return BBFMM_NO_COUNT;
     }
-    size_t nodes = power(order, dimension);
-    size_t axes = dimension * order * rows;
-    if (centre_length != dimension || node_polynomials_length != order * order || points_length != dimension * rows ||
-        values_length != nodes * rows || gradients_length != (with_gradients ? dimension * nodes * rows : 0) ||
-        factors_length != axes || slopes_length != (with_gradients ? axes : 0)) {
+    if (centre_length != dimension || points_length != dimension * rows) {
         return BBFMM_WRONG_LENGTH;
     }
     uint8_t refused = of_points(dimension, side, rows, centre, points);
@@ -104,13 +115,36 @@ uint8_t plain_get_approximation_coefficients(
         for (size_t i = 0; i < rows; i++) {
             x[i] = (x[i] - centre[axis]) / (side * 0.5);
         }
-        size_t derived = with_gradients ? order * rows : 0;
-        plain_evaluate_chebyshev_polynomials(order, rows, x, rows, with_gradients, values, order * rows, gradients, derived);
-        fill_axis(order, rows, values, node_polynomials, false, side, factors + axis * order * rows);
-        if (with_gradients) {
-            fill_axis(order, rows, gradients, node_polynomials, true, side, slopes + axis * order * rows);
-        }
     }
+    return 0;
+}
+
+uint8_t plain_get_approximation_coefficients(
+    size_t dimension, size_t order, size_t rows, bool with_gradients, double side, const double *restrict node_polynomials,
+    size_t node_polynomials_length, const double *restrict coordinates, size_t coordinates_length, double *restrict values,
+    size_t values_length, double *restrict gradients, size_t gradients_length, double *restrict factors, size_t factors_length,
+    double *restrict slopes, size_t slopes_length)
+{
+    if (of_shape(dimension, order) != 0) {
+        return of_shape(dimension, order);
+    }
+    if (rows > 4096) {
+        return BBFMM_NO_COUNT;
+    }
+    size_t nodes = power(order, dimension);
+    size_t axes = dimension * order * rows;
+    if (node_polynomials_length != order * order || coordinates_length != dimension * rows || values_length != nodes * rows ||
+        gradients_length != (with_gradients ? dimension * nodes * rows : 0) || factors_length != axes ||
+        slopes_length != (with_gradients ? axes : 0)) {
+        return BBFMM_WRONG_LENGTH;
+    }
+    if (with_gradients && !is_side(side)) {
+        return BBFMM_NO_CELL;
+    }
+    if (!are_finite(coordinates, dimension * rows)) {
+        return BBFMM_NOT_FINITE;
+    }
+    fill_axes(dimension, order, rows, with_gradients, side, node_polynomials, coordinates, values, gradients, factors, slopes);
     fill_columns(dimension, order, rows, 0, factors, factors, values);
     for (size_t axis = 0; with_gradients && axis < dimension; axis++) {
         fill_columns(dimension, order, rows, axis, slopes, factors, gradients + axis * nodes * rows);

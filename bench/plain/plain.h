@@ -33,11 +33,14 @@ uint8_t plain_sample_distances(
     size_t dimension, size_t order, double side, size_t reference, const double *restrict nodes, size_t nodes_length,
     double *restrict sources, size_t sources_length, double *restrict targets, size_t targets_length, double *restrict block,
     size_t block_length);
+uint8_t plain_scale_points(
+    size_t dimension, size_t rows, double side, const double *restrict centre, size_t centre_length, double *restrict points,
+    size_t points_length);
 uint8_t plain_get_approximation_coefficients(
-    size_t dimension, size_t order, double side, size_t rows, bool with_gradients, const double *restrict centre,
-    size_t centre_length, const double *restrict node_polynomials, size_t node_polynomials_length, double *restrict points,
-    size_t points_length, double *restrict values, size_t values_length, double *restrict gradients, size_t gradients_length,
-    double *restrict factors, size_t factors_length, double *restrict slopes, size_t slopes_length);
+    size_t dimension, size_t order, size_t rows, bool with_gradients, double side, const double *restrict node_polynomials,
+    size_t node_polynomials_length, const double *restrict coordinates, size_t coordinates_length, double *restrict values,
+    size_t values_length, double *restrict gradients, size_t gradients_length, double *restrict factors, size_t factors_length,
+    double *restrict slopes, size_t slopes_length);
 uint8_t plain_graham_ratios(
     size_t dimension, size_t order, double side, size_t rows, double floor, const double *restrict centre, size_t centre_length,
     const double *restrict node_polynomials, size_t node_polynomials_length, double *restrict points, size_t points_length,

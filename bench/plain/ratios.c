@@ -1,4 +1,4 @@
-/* Ratio maps: the coefficients, and then for each point one pass over its values with a sum a gas. */
+/* Ratio maps: the points scaled, the coefficients there, and then for each point one pass over its values with a sum a gas. */
 #include "plain.h"
 
 /* The answer at a point, whose ratio is written if it has one. */
@@ -17,6 +17,23 @@ static uint8_t answer_at(double carbon_monoxide, double nitrogen, double oxygen,
     }
     *ratio = found;
     return BBFMM_AIR_RATIO;
+}
+
+/* The gases at each point, and what they say. */
+static void fill_answers(
+    size_t nodes, size_t rows, double floor, const double *restrict values, const double *restrict carbon_monoxide,
+    const double *restrict nitrogen, const double *restrict oxygen, uint8_t *restrict answers, double *restrict ratios)
+{
+    for (size_t i = 0; i < rows; i++) {
+        double co = 0, n2 = 0, o2 = 0;
+        for (size_t n = 0; n < nodes; n++) {
+            double value = values[n * rows + i];
+            co += value * carbon_monoxide[n];
+            n2 += value * nitrogen[n];
+            o2 += value * oxygen[n];
+        }
+        answers[i] = answer_at(co, n2, o2, floor, ratios + i);
+    }
 }
 
 uint8_t plain_graham_ratios(
@@ -39,25 +56,18 @@ uint8_t plain_graham_ratios(
         return BBFMM_WRONG_LENGTH;
     }
     if (!(floor > 0 && is_finite(floor))) {
-        /* Told last, and before a point is scaled: the coefficients must not be begun. */
+        /* Told last, and before a point is scaled. */
         uint8_t before = of_points(dimension, side, rows, centre, points);
         return before != 0 ? before : BBFMM_NO_FLOOR;
     }
-    uint8_t refused = plain_get_approximation_coefficients(
-        dimension, order, side, rows, false, centre, centre_length, node_polynomials, node_polynomials_length, points, points_length,
-        values, values_length, 0, 0, factors, factors_length, 0, 0);
+    uint8_t refused = plain_scale_points(dimension, rows, side, centre, centre_length, points, points_length);
     if (refused != 0) {
         return refused;
     }
-    for (size_t i = 0; i < rows; i++) {
-        double co = 0, n2 = 0, o2 = 0;
-        for (size_t n = 0; n < nodes; n++) {
-            double value = values[n * rows + i];
-            co += value * carbon_monoxide[n];
-            n2 += value * nitrogen[n];
-            o2 += value * oxygen[n];
-        }
-        answers[i] = answer_at(co, n2, o2, floor, ratios + i);
-    }
+    /* Everything was tested: this is not refused. */
+    plain_get_approximation_coefficients(
+        dimension, order, rows, false, side, node_polynomials, node_polynomials_length, points, points_length, values, values_length,
+        0, 0, factors, factors_length, 0, 0);
+    fill_answers(nodes, rows, floor, values, carbon_monoxide, nitrogen, oxygen, answers, ratios);
     return 0;
 }

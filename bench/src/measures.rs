@@ -26,7 +26,7 @@ pub const SHAPES: [(usize, usize); SIZES] = [(1, 2), (2, 8), (3, 16)];
 
 pub type Make = fn(usize) -> Measure;
 
-pub const CALLS: [(&str, Make); 27] = [
+pub const CALLS: [(&str, Make); 30] = [
     ("generate_chebyshev_nodes", polynomials::nodes),
     ("evaluate_chebyshev_polynomials", polynomials::values),
     ("evaluate_chebyshev_polynomials, with derivatives", polynomials::derivatives),
@@ -43,10 +43,13 @@ pub const CALLS: [(&str, Make); 27] = [
     ("generate_chebyshev_source_points", blocks::source_points),
     ("square_root", distances::square_root),
     ("sample_distances", distances::sample_distances),
+    ("scale_points", cells::scale_points),
     ("get_approximation_coefficients", cells::values),
     ("get_approximation_coefficients, with gradients", cells::gradients),
-    ("get_approximation_coefficients, refused with 9 at the last coordinate", cells::not_finite),
-    ("get_approximation_coefficients, refused with 11 at the last coordinate", cells::out_of_cell),
+    ("scale_points, refused with 9 at the last coordinate", cells::not_finite),
+    ("scale_points, refused with 11 at the last coordinate", cells::out_of_cell),
+    ("scale_points and get_approximation_coefficients", cells::values_of_points),
+    ("scale_points and get_approximation_coefficients, with gradients", cells::gradients_of_points),
     ("graham_ratios", ratios::graham_ratios),
     ("argmax_masked", choices::argmax),
     ("calculate_singular_values_cutoff", choices::cutoff),

@@ -1,4 +1,5 @@
-//! Builds the cases that ask what the nodes of a cell count for at points in it.
+//! Builds the cases that ask what the nodes of a cell count for at points in it, and at coordinates
+//! anywhere.
 
 use crate::floats::{Header, Stream, shown};
 use crate::operators::true_nodes;
@@ -7,7 +8,10 @@ use crate::special_cells;
 use crate::unrounded;
 use oracle::chebyshev::reach::{self, Cell, Coefficients};
 
+/// Points are scaled by the library, and coefficients asked for at what that leaves.
 const COEFFICIENTS: u8 = 7;
+/// Coefficients are asked for at coordinates that are given, without a scaling.
+const COORDINATES: u8 = 12;
 
 /// The shortest and the longest length that the call takes.
 pub const SHORTEST: f64 = 1.0 / 1_048_576.0;
@@ -49,33 +53,72 @@ pub fn bring_in(length: f64, centre: &[f64], points: &mut [f64]) {
     }
 }
 
-/// Adds the case of a cell, and answers what the text does.
-pub fn ask(stream: &mut Stream, cell: &Cell) -> Coefficients {
-    let (dimension, order, rows) = (cell.dimension, cell.order, cell.rows());
-    let header = Header {
-        kind: COEFFICIENTS,
-        order,
-        dimension,
+/// Brings each coordinate to the middle of the cell whose difference or quotient overflows: the library
+/// refuses a reference coordinate that is not finite, where the text goes on.
+pub fn keep_finite(length: f64, centre: &[f64], points: &mut [f64]) {
+    let rows = (points.len() / centre.len()).max(1);
+    for (column, middle) in points.chunks_mut(rows).zip(centre) {
+        for point in column {
+            if !((*point - middle) / (length * 0.5)).is_finite() {
+                *point = *middle;
+            }
+        }
+    }
+}
+
+fn header(kind: u8, cell: &Cell) -> Header {
+    Header {
+        kind,
+        order: cell.order,
+        dimension: cell.dimension,
         flag: cell.with_gradients,
-        rows,
-    };
-    let answer = reach::coefficients(cell);
+        rows: cell.rows(),
+    }
+}
+
+/// The line of a case: the points as the text scales them, the values, and gradients if they are wanted.
+fn line(word: &str, cell: &Cell, answer: &Coefficients) -> String {
     let mut line = format!(
-        "coefficients {dimension} {order} {rows}:{} |{}",
+        "{word} {} {} {}:{} |{}",
+        cell.dimension,
+        cell.order,
+        cell.rows(),
         shown(&answer.points),
         shown(&answer.values)
     );
     if let Some(gradients) = &answer.gradients {
         line.push_str(&format!(" |{}", shown(gradients)));
     }
+    line
+}
+
+/// Adds the case of a cell, and answers what the text does.
+pub fn ask(stream: &mut Stream, cell: &Cell) -> Coefficients {
+    let answer = reach::coefficients(cell);
     let lists: [&[f64]; 4] = [
         &[cell.length],
         &cell.centre,
         &cell.node_polynomials,
         &cell.points,
     ];
-    stream.case(header, &lists, &line);
+    let line = line("coefficients", cell, &answer);
+    stream.case(header(COEFFICIENTS, cell), &lists, &line);
     answer
+}
+
+/// Adds the case of a cell's points as the text scales them, in the cell or not. The library only reads
+/// them, so that they stand in the line as they were given.
+///
+/// Values take no length: a NaN stands in its place, which would be refused if it were looked at.
+pub fn ask_at_coordinates(stream: &mut Stream, cell: &Cell) {
+    let answer = reach::coefficients(cell);
+    let length = match cell.with_gradients {
+        true => cell.length,
+        false => f64::NAN,
+    };
+    let lists: [&[f64]; 3] = [&[length], &cell.node_polynomials, &answer.points];
+    let line = line("coordinates", cell, &answer);
+    stream.case(header(COORDINATES, cell), &lists, &line);
 }
 
 /// A cell about some point, with points at the scaled coordinates that are drawn for each axis.

@@ -35,7 +35,7 @@ static uint8_t mapped(double floor, const double *carbon_monoxide, const double 
         LEND(factors), LEND(answers), LEND(ratios));
 }
 
-/* What the coefficient call leaves. */
+/* What scaling and the coefficient call leave. */
 static void check_values(void)
 {
     const double shares[10] = {1, 0.75, 0.5, 0.25, 0, 0, 0.25, 0.5, 0.75, 1};

@@ -1,162 +1,173 @@
-/* Coefficients. The product of every parameter with four lengths for each of seven buffers has 170 million calls. So the
-   parameters are walked with all buffers alike, exact, short, long or empty; and the lengths, each for itself, with a few cells. */
+/* Coefficients at reference coordinates. The product of every parameter with four lengths for each of six buffers has 42 million calls.
+   So the parameters are walked with all buffers alike, exact, short, long or empty; and the lengths, each for itself, with a few cells.
+   Then every coordinate, far outside the cell and not finite, beside every side, which is looked at with gradients only; and every set of
+   faults, of which the lowest number counts. */
 #include "walk.h"
 
-int memcmp(const void *left, const void *right, size_t bytes);
-void *memcpy(void *to, const void *from, size_t bytes);
+enum { BUFFERS = 6, MOST = 4096 };
 
-BUFFER(centre, double, 8, 7);
 BUFFER(polynomials, double, 300, 7);
-BUFFER(points, double, 4100, 7);
+BUFFER(coordinates, double, 12300, 7);
 BUFFER(values, double, 4100, 7);
-BUFFER(gradients, double, 4100, 7);
-BUFFER(factors, double, 4100, 7);
-BUFFER(slopes, double, 4100, 7);
+BUFFER(gradients, double, 12300, 7);
+BUFFER(factors, double, 12300, 7);
+BUFFER(slopes, double, 12300, 7);
 
+/* What a call is told. Every coordinate is the pattern, which is outside the cell, but for odd ones. */
 typedef struct {
-    size_t dimension;
-    size_t order;
-    size_t side;
-    size_t rows;
+    size_t dimension, order, rows;
     bool with_gradients;
-    size_t fault; /* 1 for a point that is a NaN, 2 for an infinite centre */
-    size_t digits[7];
+    double side;
+    size_t digits[BUFFERS];
+    Odd odd[2];
 } Trial;
+
+/* THE NUMBER, by documents 01 to 03 */
 
 static bool lend_all(const Trial *t)
 {
     size_t each = product(power(t->dimension, t->order), t->rows);
     size_t axes = product(product(t->dimension, t->order), t->rows);
-    bool fits = lend(&centre, t->dimension, t->digits[0]);
-    fits = lend(&polynomials, product(t->order, t->order), t->digits[1]) && fits;
-    fits = lend(&points, product(t->dimension, t->rows), t->digits[2]) && fits;
-    fits = lend(&values, each, t->digits[3]) && fits;
-    fits = lend(&gradients, t->with_gradients ? product(t->dimension, each) : 0, t->digits[4]) && fits;
-    fits = lend(&factors, axes, t->digits[5]) && fits;
-    return lend(&slopes, t->with_gradients ? axes : 0, t->digits[6]) && fits;
+    bool fits = lend(&polynomials, product(t->order, t->order), t->digits[0]);
+    fits = lend(&coordinates, product(t->dimension, t->rows), t->digits[1]) && fits;
+    fits = lend(&values, each, t->digits[2]) && fits;
+    fits = lend(&gradients, t->with_gradients ? product(t->dimension, each) : 0, t->digits[3]) && fits;
+    fits = lend(&factors, axes, t->digits[4]) && fits;
+    return lend(&slopes, t->with_gradients ? axes : 0, t->digits[5]) && fits;
 }
 
-/* Makes the first entry of a buffer a number that is not finite; afterwards it must still be that number, and becomes the pattern. */
-static bool spoil(double *entry, size_t length, bool is_wanted, double with)
+static uint8_t number_of(const Trial *t, bool fits)
 {
-    if (!is_wanted || length == 0) {
-        return false;
+    bool is_taken = !t->with_gradients || (0x1p-20 <= t->side && t->side <= 0x1p30);
+    bool are_finite = true;
+    for (size_t i = 0; i < coordinates.length; i++) {
+        are_finite = are_finite && is_finite(coordinates_place[i]);
     }
-    *entry = with;
-    return true;
+    uint8_t number = first(of_shape(t->dimension, t->order), unless(t->rows <= MOST, BBFMM_NO_COUNT));
+    number = first(number, first(unless(fits, BBFMM_WRONG_LENGTH), unless(is_taken, BBFMM_NO_CELL)));
+    return first(number, unless(are_finite, BBFMM_NOT_FINITE));
 }
 
-static bool heal(double *entry, bool is_spoilt, double with)
-{
-    if (!is_spoilt) {
-        return false;
-    }
-    bool is_changed = with == with ? *entry != with : *entry == *entry;
-    *entry = 7;
-    return is_changed;
-}
+/* A CALL. Coordinates and polynomials are only read, whatever it answers. */
 
 static Outcome call(const Trial *t)
 {
-    double none = 0;
     bool fits = lend_all(t);
-    bool is_point = spoil(points_place, points.length, t->fault == 1, none / none);
-    bool is_centre = spoil(centre_place, centre.length, t->fault == 2, 1 / none);
-    uint8_t expected = first(of_shape(t->dimension, t->order), unless(t->rows <= 4096, BBFMM_NO_COUNT));
-    expected = first(expected, first(unless(fits, BBFMM_WRONG_LENGTH), unless(is_side(t->side), BBFMM_NO_CELL)));
-    expected = first(expected, unless(!is_point && !is_centre, BBFMM_NOT_FINITE));
+    put_odd(&t->odd[0]);
+    put_odd(&t->odd[1]);
+    uint8_t expected = number_of(t, fits);
     uint8_t number = bbfmm_get_approximation_coefficients(
-        t->dimension, t->order, side_at(t->side), t->rows, t->with_gradients, LENT(centre), LENT(polynomials), LENT(points),
-        LENT(values), LENT(gradients), LENT(factors), LENT(slopes));
-    bool is_changed = heal(points_place, is_point, none / none);
-    is_changed = heal(centre_place, is_centre, 1 / none) || is_changed;
+        t->dimension, t->order, t->rows, t->with_gradients, t->side, LENT(polynomials), LENT(coordinates), LENT(values),
+        LENT(gradients), LENT(factors), LENT(slopes));
+    bool is_changed = take_odd(&t->odd[0], true);
+    is_changed = take_odd(&t->odd[1], true) || is_changed;
+    is_changed = !is_kept(&polynomials, polynomials.length) || !is_kept(&coordinates, coordinates.length) || is_changed;
     return (Outcome){expected, number, is_changed};
 }
 
-/* Six dimensions, six orders, eight sides, six counts of rows, with gradients or without, no fault or one of two, four lengths. */
-enum { CELLS = 6 * 6 * 8 * 6 * 2 * 3 * 4 };
-
-/* Two dimensions, with gradients or without, four lengths for each of seven buffers. */
-enum { LENGTHS = 2 * 2 * 4 * 4 * 4 * 4 * 4 * 4 * 4 };
-
-static Outcome get_approximation_coefficients(size_t k)
+/* A cell and coordinates that nothing is wrong with. */
+static Trial plain(size_t dimension, size_t order, size_t rows, bool with_gradients)
 {
-    Trial t = {0, 3, 2, 3, false, 0, {0}};
-    if (k < CELLS) {
-        t.dimension = dimension_at(take(&k, 6));
-        t.order = order_at(take(&k, 6));
-        t.side = take(&k, 8);
-        t.rows = rows_at(take(&k, 6));
-        t.with_gradients = take(&k, 2) == 1;
-        t.fault = take(&k, 3);
-        for (size_t i = 0; i < 7; i++) {
-            t.digits[i] = k;
-        }
-        return call(&t);
+    return (Trial){dimension, order, rows, with_gradients, 1, {0}, {{0, 0}, {0, 0}}};
+}
+
+/* Six dimensions, six orders, six counts of rows, with gradients or without, eight sides, no fault or a coordinate that is not finite,
+   the first or the last of the first axis, four lengths. */
+enum { CELLS = 6 * 6 * 6 * 2 * 8 * 3 * 4 };
+
+static Outcome in_cell(size_t k)
+{
+    size_t dimension = dimension_at(take(&k, 6));
+    size_t order = order_at(take(&k, 6));
+    size_t rows = rows_at(take(&k, 6));
+    Trial t = plain(dimension, order, rows, take(&k, 2) == 1);
+    t.side = side_at(take(&k, 8));
+    size_t fault = take(&k, 3);
+    if (fault == 1) {
+        t.odd[0] = (Odd){coordinates_place, not_a_number()};
+    } else if (fault == 2 && 1 <= rows && rows <= MOST) {
+        t.odd[0] = (Odd){coordinates_place + rows - 1, infinite()};
     }
-    k -= CELLS;
-    t.dimension = take(&k, 2) == 0 ? 1 : 3;
-    t.with_gradients = take(&k, 2) == 1;
-    for (size_t i = 0; i < 7; i++) {
+    for (size_t i = 0; i < BUFFERS; i++) {
+        t.digits[i] = k;
+    }
+    return call(&t);
+}
+
+/* Two dimensions, with gradients or without, four lengths for each of six buffers. */
+enum { LENGTHS = 2 * 2 * 4 * 4 * 4 * 4 * 4 * 4 };
+
+static Outcome with_lengths(size_t k)
+{
+    size_t dimension = take(&k, 2) == 0 ? 1 : 3;
+    Trial t = plain(dimension, 3, 3, take(&k, 2) == 1);
+    for (size_t i = 0; i < BUFFERS; i++) {
         t.digits[i] = take(&k, 4);
     }
     return call(&t);
 }
 
-/* THE BORDER of the cell: one coordinate of three points lies 1 + 2^-20 halves of the side from the centre, or at the next float
-   on either side of that; the others lie at the centre, but for one that may be infinite or a NaN. */
-enum { POINTS = 3, BORDERS = 3 * 2 * 3 * 3 * POINTS * 2 * 3 * 3 };
-
-static double bordering(size_t *k, double half)
+static Outcome get_approximation_coefficients(size_t k)
 {
-    double sign = take(k, 2) == 0 ? 1 : -1;
-    double point = 7 + sign * half * (1 + 1.0 / 1048576);
-    size_t step = take(k, 3);
-    return step == 0 ? point : beside(point, step == 1);
+    return k < CELLS ? in_cell(k) : with_lengths(k - CELLS);
 }
 
-/* Points that were taken are reference coordinates now; those that were refused are as they were lent. */
-static bool are_right(uint8_t number, const double *before, double half)
+/* COORDINATES: one of three points, on each axis, with gradients or without; what it is; another that may not be finite, or a polynomial
+   that is not, which is taken; eight sides. */
+enum { POINTS = 3, PLACES = 3 * 3, REFERENCES = 20, OTHERS = 4, AT_COORDINATES = 3 * 2 * PLACES * REFERENCES * OTHERS * 8 };
+
+/* The cell's face and border, and the float beyond it; far outside; the ends of the ranges; zeros; and what is not finite. */
+static double reference_at(size_t k)
 {
-    for (size_t i = 0; i < points.length; i++) {
-        double right = number == 0 ? (before[i] - 7) / half : before[i];
-        if (memcmp(&points_place[i], &right, sizeof right) != 0) {
-            return false;
-        }
+    static const double LIST[8] = {1, 1 + 0x1p-20, 1 + 0x1p-20 + 0x1p-52, 6000, 0x1p1000, 0x1.fffffffffffffp1023, 0x1p-1074, 0};
+    double sign = k % 2 == 0 ? 1 : -1;
+    return sign * (k / 2 < 8 ? LIST[k / 2] : k / 2 == 8 ? infinite() : not_a_number());
+}
+
+static double *place_at(size_t dimension, size_t k)
+{
+    return coordinates_place + k % 3 % dimension * POINTS + k / 3;
+}
+
+static Outcome get_approximation_coefficients_at_coordinates(size_t k)
+{
+    size_t dimension = 1 + take(&k, 3);
+    Trial t = plain(dimension, 2, POINTS, take(&k, 2) == 1);
+    size_t place = take(&k, PLACES);
+    t.odd[0] = (Odd){place_at(dimension, place), reference_at(take(&k, REFERENCES))};
+    double *next = place_at(dimension, (place + 4) % PLACES);
+    switch (take(&k, OTHERS)) {
+    case 0: break;
+    case 1: t.odd[1] = (Odd){next, not_a_number()}; break;
+    case 2: t.odd[1] = (Odd){next, -infinite()}; break;
+    default: t.odd[1] = (Odd){polynomials_place + 1, not_a_number()}; break;
     }
-    return true;
+    t.side = side_at(k);
+    return call(&t);
 }
 
-static Outcome border(size_t k)
+/* FAULTS: every set of the six, with gradients or without, the buffer whose length is wrong, short or long; and the place of the
+   coordinate that is not finite. */
+enum { SETS = 64, AT_FAULTS = SETS * 2 * BUFFERS * 2 * POINTS };
+
+static Outcome get_approximation_coefficients_with_faults(size_t k)
 {
-    const double none = 0;
-    const double sides[3] = {1.0 / 1048576, 1, 1073741824};
-    const double others[3] = {7, 1 / none, none / none};
-    Trial t = {1 + take(&k, 3), 2, 0, POINTS, false, 0, {0}};
-    t.with_gradients = take(&k, 2) == 1;
-    double half = sides[take(&k, 3)] * 0.5;
-    size_t axis = take(&k, 3) % t.dimension;
-    size_t place = axis * POINTS + take(&k, POINTS);
-    lend_all(&t);
-    points_place[place] = bordering(&k, half);
-    points_place[(place + 1) % points.length] = others[k];
-    double before[3 * POINTS];
-    memcpy(before, points_place, points.length * sizeof before[0]);
-    double coordinate = (before[place] - 7) / half;
-    bool is_in = -1 - 1.0 / 1048576 <= coordinate && coordinate <= 1 + 1.0 / 1048576;
-    uint8_t expected = first(unless(k == 0, BBFMM_NOT_FINITE), unless(is_in, BBFMM_OUT_OF_CELL));
-    uint8_t number = bbfmm_get_approximation_coefficients(
-        t.dimension, t.order, half * 2, t.rows, t.with_gradients, LENT(centre), LENT(polynomials), LENT(points), LENT(values),
-        LENT(gradients), LENT(factors), LENT(slopes));
-    Outcome outcome = {expected, number, !are_right(number, before, half)};
-    points_place[place] = 7;
-    points_place[(place + 1) % points.length] = 7;
-    return outcome;
+    size_t faults = take(&k, SETS);
+    Trial t = plain((faults & 1) != 0 ? 4 : 1, (faults & 2) != 0 ? 17 : 1, (faults & 4) != 0 ? MOST + 1 : POINTS, take(&k, 2) == 1);
+    size_t buffer = take(&k, BUFFERS);
+    size_t digit = 1 + take(&k, 2);
+    t.digits[buffer] = (faults & 8) != 0 ? digit : 0;
+    t.side = (faults & 16) != 0 ? 0 : t.side;
+    if ((faults & 32) != 0) {
+        t.odd[0] = (Odd){coordinates_place + k, (double[]){not_a_number(), infinite(), -infinite()}[k]};
+    }
+    return call(&t);
 }
 
 void walk_coefficients(void)
 {
-    Buffer *const lent[] = {&centre, &polynomials, &points, &values, &gradients, &factors, &slopes};
+    Buffer *const lent[] = {&polynomials, &coordinates, &values, &gradients, &factors, &slopes};
     WALK("get_approximation_coefficients", CELLS + LENGTHS, get_approximation_coefficients, lent);
-    WALK("get_approximation_coefficients_at_the_border", BORDERS, border, lent);
+    WALK("get_approximation_coefficients_at_coordinates", AT_COORDINATES, get_approximation_coefficients_at_coordinates, lent);
+    WALK("get_approximation_coefficients_with_faults", AT_FAULTS, get_approximation_coefficients_with_faults, lent);
 }

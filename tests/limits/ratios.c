@@ -25,22 +25,8 @@ typedef struct {
     size_t rows;
     double floor;
     size_t digits[BUFFERS];
-    struct {
-        double *place; /* or 0 */
-        double x;
-    } odd[2];
+    Odd odd[2];
 } Trial;
-
-static double infinite(void)
-{
-    const double none = 0;
-    return 1 / none;
-}
-
-static double not_a_number(void)
-{
-    return infinite() - infinite();
-}
 
 /* THE NUMBER, by documents 01 to 03 */
 
@@ -57,11 +43,6 @@ static bool lend_all(const Trial *t)
     fits = lend(&factors, product(product(t->dimension, t->order), t->rows), t->digits[7]) && fits;
     fits = lend(&answers, t->rows, t->digits[8]) && fits;
     return lend(&ratios, t->rows, t->digits[9]) && fits;
-}
-
-static bool is_finite(double x)
-{
-    return x - x == 0;
 }
 
 static bool is_in_cell(const Trial *t, size_t axis, size_t row)
@@ -101,28 +82,14 @@ static uint8_t number_of(const Trial *t, bool fits)
 
 /* A CALL */
 
-static void put_odd(const Trial *t)
-{
-    for (size_t k = 0; k < 2; k++) {
-        if (t->odd[k].place != 0) {
-            *t->odd[k].place = t->odd[k].x;
-        }
-    }
-}
-
-/* After a refusal the odd coordinates must be there still, and the centre's always. Answers whether one is not, and puts the pattern
-   back. */
-static bool take_odd(const Trial *t, bool is_refused)
+/* After a refusal the odd coordinates must be there still, and the centre's always. Answers whether one is not. */
+static bool take_both(const Trial *t, bool is_refused)
 {
     bool is_changed = false;
     for (size_t k = 0; k < 2; k++) {
-        double *place = t->odd[k].place;
-        if (place == 0) {
-            continue;
-        }
-        bool must_stay = is_refused || (centre_place <= place && place < centre_place + centre.room);
-        is_changed = (must_stay && memcmp(place, &t->odd[k].x, sizeof *place) != 0) || is_changed;
-        *place = 7;
+        const double *place = t->odd[k].place;
+        bool is_of_centre = centre_place <= place && place < centre_place + centre.room;
+        is_changed = take_odd(&t->odd[k], is_refused || is_of_centre) || is_changed;
     }
     return is_changed;
 }
@@ -151,7 +118,8 @@ static Outcome call(const Trial *t)
 {
     static double coordinates[3 * MOST];
     bool fits = lend_all(t);
-    put_odd(t);
+    put_odd(&t->odd[0]);
+    put_odd(&t->odd[1]);
     uint8_t expected = number_of(t, fits);
     for (size_t i = 0; expected == 0 && i < points.length; i++) {
         coordinates[i] = (points_place[i] - centre_place[i / t->rows]) / (t->side * 0.5);
@@ -160,7 +128,7 @@ static Outcome call(const Trial *t)
         t->dimension, t->order, t->side, t->rows, t->floor, LENT(centre), LENT(polynomials), LENT(points), LENT(carbon_monoxide),
         LENT(nitrogen), LENT(oxygen), LENT(values), LENT(factors), LENT(answers), LENT(ratios));
     bool is_changed = number == 0 && expected == 0 && is_anything_else(t->rows, coordinates);
-    is_changed = take_odd(t, number != 0) || is_changed;
+    is_changed = take_both(t, number != 0) || is_changed;
     return (Outcome){expected, number, is_changed};
 }
 
@@ -247,27 +215,6 @@ static Outcome graham_ratios_at_floors(size_t k)
 /* COORDINATES: one of three points or of the centre, in three dimensions; what it is; another that may be odd too; three sides; and
    three floors. */
 enum { POINTS = 3, PLACES = 4 * 3, COORDINATES = 22, OTHERS = 4, AT_COORDINATES = 3 * PLACES * COORDINATES * OTHERS * 3 * 3 };
-
-/* The border, 1 + 2^-20 halves of the side from where the others are, and the floats beside it; the ends of the ranges; zeros; and what
-   is not finite. */
-static double coordinate_at(size_t k, double half)
-{
-    double sign = k % 2 == 0 ? 1 : -1;
-    double border = 7 + sign * half * (1 + 0x1p-20);
-    switch (k / 2) {
-    case 0: return border;
-    case 1: return beside(border, true);
-    case 2: return beside(border, false);
-    case 3: return 7 + sign * half;
-    case 4: return sign * 0x1.fffffffffffffp1023;
-    case 5: return sign * 0x1p-1074;
-    case 6: return sign * 0;
-    case 7: return sign * 0x1p1000;
-    case 8: return sign * 7;
-    case 9: return sign * infinite();
-    default: return sign * not_a_number();
-    }
-}
 
 static double *place_at(size_t dimension, size_t k)
 {

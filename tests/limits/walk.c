@@ -17,7 +17,7 @@ static void fill(Buffer *buffer, size_t count)
 }
 
 /* The first entries hold the pattern: the first of them does, and each equals the next. */
-static bool is_kept(const Buffer *buffer, size_t count)
+bool is_kept(const Buffer *buffer, size_t count)
 {
     const char *place = buffer->place;
     if (count == 0) {
@@ -98,6 +98,23 @@ bool lend(Buffer *buffer, size_t exact, size_t digit)
     return buffer->length == exact;
 }
 
+void put_odd(const Odd *odd)
+{
+    if (odd->place != 0) {
+        *odd->place = odd->x;
+    }
+}
+
+bool take_odd(const Odd *odd, bool must_stay)
+{
+    if (odd->place == 0) {
+        return false;
+    }
+    bool is_changed = must_stay && memcmp(odd->place, &odd->x, sizeof odd->x) != 0;
+    *odd->place = 7;
+    return is_changed;
+}
+
 size_t product(size_t a, size_t b)
 {
     if (a == (size_t)-1 && b == (size_t)-1) {
@@ -130,6 +147,22 @@ double beside(double x, bool is_larger)
     return x;
 }
 
+double infinite(void)
+{
+    const double none = 0;
+    return 1 / none;
+}
+
+double not_a_number(void)
+{
+    return infinite() - infinite();
+}
+
+bool is_finite(double x)
+{
+    return x - x == 0;
+}
+
 size_t dimension_at(size_t k)
 {
     return (size_t[]){0, 1, 2, 3, 4, (size_t)-1}[k];
@@ -160,6 +193,25 @@ double side_at(size_t k)
 bool is_side(size_t k)
 {
     return k == 0 || k == 2 || k == 3;
+}
+
+double coordinate_at(size_t k, double half)
+{
+    double sign = k % 2 == 0 ? 1 : -1;
+    double border = 7 + sign * half * (1 + 0x1p-20);
+    switch (k / 2) {
+    case 0: return border;
+    case 1: return beside(border, true);
+    case 2: return beside(border, false);
+    case 3: return 7 + sign * half;
+    case 4: return sign * 0x1.fffffffffffffp1023;
+    case 5: return sign * 0x1p-1074;
+    case 6: return sign * 0;
+    case 7: return sign * 0x1p1000;
+    case 8: return sign * 7;
+    case 9: return sign * infinite();
+    default: return sign * not_a_number();
+    }
 }
 
 uint8_t unless(bool holds, uint8_t number)
@@ -197,6 +249,7 @@ int main(void)
     walk_transfer();
     walk_points();
     walk_distances();
+    walk_scaling();
     walk_coefficients();
     walk_ratios();
     walk_exchange();

@@ -39,6 +39,18 @@ size_t take(size_t *k, size_t n);
    that is the exact length. */
 bool lend(Buffer *buffer, size_t exact, size_t digit);
 
+/* Whether the first entries of a buffer, so many, hold the pattern. */
+bool is_kept(const Buffer *buffer, size_t count);
+
+/* An entry of a buffer, of which the pattern is 7, that is another float for one call; a place of 0 is none. It is put there before the
+   call and taken away behind it, with the answer whether it had to stay and did not. */
+typedef struct {
+    double *place;
+    double x;
+} Odd;
+void put_odd(const Odd *odd);
+bool take_odd(const Odd *odd, bool must_stay);
+
 /* A product, or a number above any room. The largest number times itself is 1 where a product wraps, and then 1 is the length to try. */
 size_t product(size_t a, size_t b);
 /* An order to the power of a dimension. */
@@ -46,6 +58,9 @@ size_t power(size_t dimension, size_t order);
 size_t lesser(size_t a, size_t b);
 /* The float beside one that is not 0: the next larger in size, or the next smaller. */
 double beside(double x, bool is_larger);
+double infinite(void);
+double not_a_number(void);
+bool is_finite(double x);
 
 /* Values about the limits. */
 size_t dimension_at(size_t k); /* 6 */
@@ -54,6 +69,9 @@ size_t rows_at(size_t k);      /* 6 */
 size_t number_at(size_t k);    /* 8 */
 double side_at(size_t k);      /* 8 */
 bool is_side(size_t k);
+/* A coordinate of a point, or of the centre, of a cell about 7: the border, 1 + 2^-20 halves of the side from there, and the floats beside
+   it; the cell's face; the ends of the ranges; zeros; and what is not finite. */
+double coordinate_at(size_t k, double half); /* 22 */
 
 /* The lowest of the numbers that document 01 gives; 0 is none. */
 uint8_t of_order(size_t order);
@@ -67,6 +85,7 @@ void walk_chebyshev(void);
 void walk_transfer(void);
 void walk_points(void);
 void walk_distances(void);
+void walk_scaling(void);
 void walk_coefficients(void);
 void walk_ratios(void);
 void walk_exchange(void);

@@ -99,6 +99,7 @@ static void replay_case(Case c)
     case 8: case 9: replay_choices(c); break;
     case 10: replay_aca(c); break;
     case 11: replay_ratios(c); break;
+    case 12: replay_reference(c); break;
     default: printf("unknown kind %u\n", c.kind);
     }
 }

@@ -240,6 +240,8 @@ static Answer *answer_of(const char *file)
         {"e05_ratio", answer_e05_ratio},
         {"e06_read", answer_e06_read},
         {"e06_write", answer_e06_write},
+        {"e07_scale", answer_e07_scale},
+        {"e07_reference", answer_e07_reference},
         {"e08_smallest", answer_e08_smallest},
     };
     for (size_t i = 0; i < sizeof all / sizeof all[0]; i++) {

@@ -51,6 +51,8 @@ Answer answer_e04_cross;
 Answer answer_e05_ratio;
 Answer answer_e06_read;
 Answer answer_e06_write;
+Answer answer_e07_scale;
+Answer answer_e07_reference;
 Answer answer_e08_smallest;
 
 /* The call of a case of E4 or E8: the floats of its report, or null where it is refused. */

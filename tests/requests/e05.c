@@ -30,15 +30,19 @@ static Lengths lengths_of(size_t dimension, size_t order, size_t rows)
     return (Lengths){nodes * rows, dimension * order * rows, rows};
 }
 
-/* The case does not list what becomes of the points, the values and the factors: they must be what the coefficient call leaves. */
+/* The case does not list what becomes of the points, the values and the factors: they must be what scaling and the coefficient call
+   leave. */
 static void hold_coefficients(Lengths lengths, size_t centre_count, size_t polynomial_count, size_t point_count)
 {
     static double points[ROOM], values[ROOM], factors[ROOM], none[1];
+    double length = real("length");
     memcpy(points, before.points, sizeof points);
+    bool is_scaled =
+        bbfmm_scale_points(number("d"), number("rows"), length, lent.centre, centre_count, points, point_count) == BBFMM_DONE;
     bool is_done = bbfmm_get_approximation_coefficients(
-        number("d"), number("p"), real("length"), number("rows"), false, lent.centre, centre_count, lent.polynomials, polynomial_count,
-        points, point_count, values, lengths.values, none, 0, factors, lengths.factors, none, 0) == BBFMM_DONE;
-    hold(is_done && are_alike(lent.points, points, point_count), "points");
+        number("d"), number("p"), number("rows"), false, length, lent.polynomials, polynomial_count, points, point_count, values,
+        lengths.values, none, 0, factors, lengths.factors, none, 0) == BBFMM_DONE;
+    hold(is_scaled && is_done && are_alike(lent.points, points, point_count), "points");
     hold(are_alike(lent.values, values, lengths.values), "values");
     hold(are_alike(lent.factors, factors, lengths.factors), "factors");
 }

@@ -56,11 +56,11 @@ mod turn;
 pub use aca::{Buffers, Mode, Report, Stop, aca_partial_pivoting};
 pub use chebyshev::{evaluate_chebyshev_polynomials, generate_chebyshev_nodes};
 pub use choices::{argmax_masked, calculate_singular_values_cutoff};
-pub use coefficients::{Cell, Gradients, get_approximation_coefficients};
+pub use coefficients::{Gradients, get_approximation_coefficients, scale_points};
 pub use distances::{sample_distances, square_root};
 pub use exchange::{Size, TextRefusal, block_size, read_block, write_block};
 pub use points::{generate_chebyshev_source_points, generate_chebyshev_target_points};
-pub use ratios::{Air, Gases, graham_ratios};
+pub use ratios::{Air, Cell, Gases, graham_ratios};
 pub use refusal::Refusal;
 pub use transfer::{apply_cheb_tensor_transfer, get_m2m_transfer_operators};
 pub use turn::{

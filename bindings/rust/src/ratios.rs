@@ -1,8 +1,20 @@
 //! Graham's ratio at points of a cell, from the fields of three gases.
 
-use crate::coefficients::Cell;
 use crate::refusal::{Refusal, told};
 use crate::sys;
+
+/// A cell, and how many points in it are asked for.
+#[derive(Clone, Copy, Debug, PartialEq)]
+pub struct Cell {
+    /// D, 1 to 3.
+    pub dimension: usize,
+    /// p, 1 to 16.
+    pub order: usize,
+    /// How long the cell is on each axis, from 2^-20 to 2^30.
+    pub length: f64,
+    /// P, how many points there are, at most 4,096.
+    pub rows: usize,
+}
 
 /// The local expansions of the three gases: what each field is at the nodes of the cell, N entries
 /// each, all in one unit, as per cent.
@@ -69,7 +81,7 @@ impl Air {
 /// - `floor`: the least deficiency that has a ratio, finite and above 0, in the unit of the gases.
 /// - `centre`: D entries, the middle of the cell.
 /// - `node_polynomials`: p by p. Column k has T_k at the nodes.
-/// - `points`: P by D, a row a point. They become reference coordinates, from -1 to 1 in the cell.
+/// - `points`: P by D, a row a point, not scaled yet. They become what [`scale_points`] leaves.
 /// - `gases`: N entries each.
 /// - `values`: P by N, and `factors`: P by D * p, room to work in. They become what
 ///   [`get_approximation_coefficients`] leaves without gradients.
@@ -78,6 +90,7 @@ impl Air {
 ///   it stays as lent.
 ///
 /// [`get_approximation_coefficients`]: crate::get_approximation_coefficients
+/// [`scale_points`]: crate::scale_points
 ///
 /// # Errors
 ///

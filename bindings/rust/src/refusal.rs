@@ -37,12 +37,13 @@ pub enum Refusal {
     WrongLength = 7,
     /// The cell's length is not from 2^-20 to 2^30; NaN is not.
     NoCell = 8,
-    /// A coordinate of a point or of the centre is not finite.
+    /// A coordinate of a point or of the centre is not finite; or a reference coordinate is not.
     NotFinite = 9,
     /// A byte of a mask is not 0 or 1.
     NoMask = 10,
-    /// A point does not belong to the cell: one of its reference coordinates, (point - centre) /
-    /// (length * 0.5), is above 1 + 2^-20 in size.
+    /// A point to be scaled does not belong to the cell: one of its reference coordinates, (point -
+    /// centre) / (length * 0.5), is above 1 + 2^-20 in size. Reference coordinates that are given as
+    /// such may be.
     OutOfCell = 11,
     /// The floor of the oxygen deficiency is not finite and above 0.
     NoFloor = 12,

@@ -15,8 +15,8 @@
 #![allow(unsafe_code)]
 
 use crate::aca::Buffers;
-use crate::coefficients::Cell;
-use crate::ratios::Gases;
+use crate::coefficients::Gradients;
+use crate::ratios::{Cell, Gases};
 
 unsafe extern "C" {
     fn bbfmm_follow_node(
@@ -139,18 +139,26 @@ unsafe extern "C" {
         block_length: usize,
     ) -> u8;
 
+    fn bbfmm_scale_points(
+        dimension: usize,
+        rows: usize,
+        length: f64,
+        centre: *const f64,
+        centre_length: usize,
+        points: *mut f64,
+        points_length: usize,
+    ) -> u8;
+
     fn bbfmm_get_approximation_coefficients(
         dimension: usize,
         order: usize,
-        length: f64,
         rows: usize,
         with_gradients: bool,
-        centre: *const f64,
-        centre_length: usize,
+        length: f64,
         node_polynomials: *const f64,
         node_polynomials_length: usize,
-        points: *mut f64,
-        points_length: usize,
+        coordinates: *const f64,
+        coordinates_length: usize,
         values: *mut f64,
         values_length: usize,
         gradients: *mut f64,
@@ -465,41 +473,62 @@ pub(crate) fn sample_distances(
     }
 }
 
-#[expect(clippy::too_many_arguments, reason = "they are those of the call")]
-pub(crate) fn get_approximation_coefficients(
-    cell: Cell,
-    with_gradients: bool,
+pub(crate) fn scale_points(
+    dimension: usize,
+    rows: usize,
+    length: f64,
     centre: &[f64],
-    node_polynomials: &[f64],
     points: &mut [f64],
-    values: &mut [f64],
-    gradients: &mut [f64],
-    factors: &mut [f64],
-    slopes: &mut [f64],
 ) -> u8 {
-    // SAFETY: seven slices by their pointers and lengths. The first two are only read and may be
-    // the same; the five others are borrowed mutably, so they overlap nothing. The bool is Rust's.
+    // SAFETY: two slices by their pointers and lengths. `centre` is only read; `points` is borrowed
+    // mutably, so they do not overlap.
     unsafe {
-        bbfmm_get_approximation_coefficients(
-            cell.dimension,
-            cell.order,
-            cell.length,
-            cell.rows,
-            with_gradients,
+        bbfmm_scale_points(
+            dimension,
+            rows,
+            length,
             centre.as_ptr(),
             centre.len(),
-            node_polynomials.as_ptr(),
-            node_polynomials.len(),
             points.as_mut_ptr(),
             points.len(),
+        )
+    }
+}
+
+#[expect(clippy::too_many_arguments, reason = "they are those of the call")]
+pub(crate) fn get_approximation_coefficients(
+    dimension: usize,
+    order: usize,
+    rows: usize,
+    with_gradients: bool,
+    node_polynomials: &[f64],
+    coordinates: &[f64],
+    values: &mut [f64],
+    factors: &mut [f64],
+    wanted: Gradients<'_>,
+) -> u8 {
+    // SAFETY: six slices by their pointers and lengths. The first two are only read and may be the
+    // same; the two others and the two of `wanted` are borrowed mutably, so they overlap nothing.
+    // The bool is Rust's.
+    unsafe {
+        bbfmm_get_approximation_coefficients(
+            dimension,
+            order,
+            rows,
+            with_gradients,
+            wanted.length,
+            node_polynomials.as_ptr(),
+            node_polynomials.len(),
+            coordinates.as_ptr(),
+            coordinates.len(),
             values.as_mut_ptr(),
             values.len(),
-            gradients.as_mut_ptr(),
-            gradients.len(),
+            wanted.gradients.as_mut_ptr(),
+            wanted.gradients.len(),
             factors.as_mut_ptr(),
             factors.len(),
-            slopes.as_mut_ptr(),
-            slopes.len(),
+            wanted.slopes.as_mut_ptr(),
+            wanted.slopes.len(),
         )
     }
 }

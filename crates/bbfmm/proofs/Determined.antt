@@ -17,7 +17,9 @@ use Rattle.points.specs.Points.{targetCall, sourceCall}
 use Rattle.roots.specs.Values.{SquareRoot}
 use Rattle.roots.proofs.Determined.{square-root-determined}
 use Rattle.distances.specs.Distances as distances
+use Rattle.coordinates.specs.Scaling.{scaleCall}
 use Rattle.coefficients.specs.Coefficients as coefficients
+use Rattle.coefficients.specs.Pair.{wantedOf}
 use Rattle.ratios.specs.Ratios as ratios
 use Rattle.aca_steps.specs.Memories.{Memory}
 use Rattle.bbfmm.specs.Exchanged.{sizeTold, readTold, writeTold}
@@ -96,13 +98,18 @@ module _ (dimension order : ℕ) (side : Float) (reference : ℕ) (nodes : List 
 
 -- COEFFICIENTS
 
-module _ (dimension order rows : ℕ) (side : Float) (with : Bool) (centre polynomials : List Float) (lent : coefficients.Memory)
+module _ (dimension rows : ℕ) (side : Float) (centre points : List Float) (r r' : ℕ × List Float) where
+  bbfmm-scale-points-determined : r ≡ scaleCall dimension rows side centre points → r' ≡ scaleCall dimension rows side centre points →
+      r ≡ r'
+  bbfmm-scale-points-determined = coincide r r' (scaleCall dimension rows side centre points)
+
+module _ (dimension order rows : ℕ) (with : Bool) (side : Float) (polynomials coordinates : List Float) (lent : coefficients.Memory)
     (r r' : ℕ × coefficients.Memory) where
-  bbfmm-get-approximation-coefficients-determined : r ≡ coefficients.coefficientsCall dimension order rows side with centre polynomials
-      lent →
-      r' ≡ coefficients.coefficientsCall dimension order rows side with centre polynomials lent → r ≡ r'
-  bbfmm-get-approximation-coefficients-determined = coincide r r' (coefficients.coefficientsCall dimension order rows side with centre
-      polynomials lent)
+  bbfmm-get-approximation-coefficients-determined : r ≡ coefficients.coefficientsCall dimension order rows (wantedOf with side) polynomials
+      coordinates lent →
+      r' ≡ coefficients.coefficientsCall dimension order rows (wantedOf with side) polynomials coordinates lent → r ≡ r'
+  bbfmm-get-approximation-coefficients-determined =
+      coincide r r' (coefficients.coefficientsCall dimension order rows (wantedOf with side) polynomials coordinates lent)
 
 module _ (dimension order rows : ℕ) (side floor : Float) (centre polynomials carbonMonoxide nitrogen oxygen : List Float)
     (lent : ratios.Memory) (r r' : ℕ × ratios.Memory) where

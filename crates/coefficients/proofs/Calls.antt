@@ -6,84 +6,92 @@ use Prim.Native.Nat.{ℕ, _*_, _^_, _<_, _≤_}
 use lib.Dec.{leb}
 use lib.Ieee.{Float}
 use borrow.Author.Tests.{eqb-true, leb-true, le-leb, lt-leb}
+use Rattle.common.specs.Matrices.{matrix}
 use Rattle.common.specs.Refusals.{sizeIf, Shape, mostPoints, shapeNumber}
 use Rattle.common.proofs.Cases.{equal-and}
 use Rattle.common.proofs.Limits.{shape-out, shape-past, call-refused, call-done, passed, shape-passed}
-use Rattle.coordinates.specs.Coordinates.{coordinate, pointsNumber}
-use Rattle.coefficients.specs.Coefficients.{lengths, lengthsFit, coefficientsNumber, Memory, leaves, coefficientsCall}
+use Rattle.coordinates.specs.Coordinates.{allFinite}
+use Rattle.coefficients.specs.Coefficients.{withGradients, takesSide, lengths, lengthsFit, coefficientsNumber, Memory, leaves}
+use Rattle.coefficients.specs.Coefficients.{coefficientsCall}
 use Rattle.coefficients.specs.Working.{Admitted}
 use Rattle.coefficients.specs.declared.Lengths.{Lengths}
+use Rattle.coefficients.specs.declared.wanted.Wanted.{Wanted}
 
-module _ (D p P : ℕ) (side : Float) (centre points : List Float) (fit : Bool) where
-  pub number-shape : (shapeNumber D p ≡ 0 → ⊥) → shapeNumber D p ≡ coefficientsNumber D p P side centre points fit
+module _ (D p P : ℕ) (wanted : Wanted) (x : List Float) (fit : Bool) where
+  pub number-shape : (shapeNumber D p ≡ 0 → ⊥) → shapeNumber D p ≡ coefficientsNumber D p P wanted x fit
   unfolding coefficientsNumber
   number-shape h = shape-out D p _ h
 
   module _ (s : Shape D p) where
-    pub number-count : mostPoints < P → 3 ≡ coefficientsNumber D p P side centre points fit
+    pub number-count : mostPoints < P → 3 ≡ coefficientsNumber D p P wanted x fit
     unfolding coefficientsNumber
     number-count h = sym (shape-past D p _ s ∙ rw (lt-leb P mostPoints h))
 
     module _ (few : P ≤ mostPoints) where
-      pub number-length : fit ≡ false → 7 ≡ coefficientsNumber D p P side centre points fit
+      pub number-length : fit ≡ false → 7 ≡ coefficientsNumber D p P wanted x fit
       unfolding coefficientsNumber
       number-length f = sym (shape-past D p _ s ∙ rw (le-leb P mostPoints few, f))
 
-      -- past the lengths it is the number of the cell and its points
-      pub number-rest : fit ≡ true → pointsNumber D P side centre points ≡ coefficientsNumber D p P side centre points fit
-      unfolding coefficientsNumber
-      number-rest f = sym (shape-past D p _ s ∙ rw (le-leb P mostPoints few, f))
+      module _ (f : fit ≡ true) where
+        pub number-side : takesSide wanted ≡ false → 8 ≡ coefficientsNumber D p P wanted x fit
+        unfolding coefficientsNumber
+        number-side h = sym (shape-past D p _ s ∙ rw (le-leb P mostPoints few, f, h))
 
-  -- not refused: the shape, the count and the lengths are right, and so are the cell and its points
-  pub number-taken : coefficientsNumber D p P side centre points fit ≡ 0 →
-      Shape D p × (P ≤ mostPoints) × (fit ≡ true) × (pointsNumber D P side centre points ≡ 0)
+        module _ (side : takesSide wanted ≡ true) where
+          pub number-finite : allFinite x ≡ false → 9 ≡ coefficientsNumber D p P wanted x fit
+          unfolding coefficientsNumber
+          number-finite h = sym (shape-past D p _ s ∙ rw (le-leb P mostPoints few, f, side, h))
+
+          pub number-none : allFinite x ≡ true → 0 ≡ coefficientsNumber D p P wanted x fit
+          unfolding coefficientsNumber
+          number-none h = sym (shape-past D p _ s ∙ rw (le-leb P mostPoints few, f, side, h))
+
+  -- not refused: the shape, the count and the lengths are right
+  pub number-taken : coefficientsNumber D p P wanted x fit ≡ 0 → Shape D p × (P ≤ mostPoints) × (fit ≡ true)
   unfolding coefficientsNumber
   number-taken z =
       let s = shape-passed D p _ z in
       let few = passed (leb P mostPoints) 2 _ (s .1) in
-      let long = passed fit 6 _ (few .1) in
-      (s .0, leb-true P mostPoints (few .0), long .0, long .1)
+      (s .0, leb-true P mostPoints (few .0), passed fit 6 _ (few .1) .0)
 
 module _ (D p P : ℕ) (with : Bool) (lent : Lengths) where
   -- the lengths are as stated
   pub admitted : Shape D p → P ≤ mostPoints → lengthsFit D p P with lent ≡ true → Admitted D p P with lent
   unfolding lengthsFit
   admitted s few h =
-      let one = equal-and (lent .points) (D * P) _ h in
-      let two = equal-and (lent .centre) D _ (one .1) in
-      let three = equal-and (lent .polynomials) (p * p) _ (two .1) in
-      let four = equal-and (lent .values) (p ^ D * P) _ (three .1) in
-      let five = equal-and (lent .gradients) (sizeIf with (D * p ^ D * P)) _ (four .1) in
-      let six = equal-and (lent .factors) (D * p * P) _ (five .1) in
+      let one = equal-and (lent .coordinates) (D * P) _ h in
+      let two = equal-and (lent .polynomials) (p * p) _ (one .1) in
+      let three = equal-and (lent .values) (p ^ D * P) _ (two .1) in
+      let four = equal-and (lent .gradients) (sizeIf with (D * p ^ D * P)) _ (three .1) in
+      let five = equal-and (lent .factors) (D * p * P) _ (four .1) in
       record {
         shape = s;
         few = few;
-        points = one .0;
-        centre = two .0;
-        polynomials = three .0;
-        values = four .0;
-        gradients = five .0;
-        factors = six .0;
-        slopes = eqb-true _ _ (six .1);
+        coordinates = one .0;
+        polynomials = two .0;
+        values = three .0;
+        gradients = four .0;
+        factors = five .0;
+        slopes = eqb-true _ _ (five .1);
       }
 
 -- THE CALL
 
-module _ (D p P : ℕ) (side : Float) (with : Bool) (centre t x v g f d : List Float) where
+module _ (D p P : ℕ) (wanted : Wanted) (t x v g f d : List Float) where
   -- not refused: the lengths are as stated
-  pub call-admitted : coefficientsCall D p P side with centre t (x, v, g, f, d) .0 ≡ 0 →
-      Admitted D p P with (lengths centre t (x, v, g, f, d))
+  pub call-admitted : coefficientsCall D p P wanted t x (v, g, f, d) .0 ≡ 0 →
+      Admitted D p P (withGradients wanted) (lengths t x (v, g, f, d))
   unfolding coefficientsCall
   call-admitted z =
-      let h = number-taken D p P side centre x (lengthsFit D p P with (lengths centre t (x, v, g, f, d))) z in
-      admitted D p P with (lengths centre t (x, v, g, f, d)) (h .0) (h .1) (h .2)
+      let h = number-taken D p P wanted x (lengthsFit D p P (withGradients wanted) (lengths t x (v, g, f, d))) z in
+      admitted D p P (withGradients wanted) (lengths t x (v, g, f, d)) (h .0) (h .1) (h .2)
 
-  module _ (r : ℕ) (e : r ≡ coefficientsCall D p P side with centre t (x, v, g, f, d) .0) where
-    pub coefficients-refused : (r ≡ 0 → ⊥) → (r, (x, v, g, f, d)) ≡ coefficientsCall D p P side with centre t (x, v, g, f, d)
+  module _ (r : ℕ) (e : r ≡ coefficientsCall D p P wanted t x (v, g, f, d) .0) where
+    pub coefficients-refused : (r ≡ 0 → ⊥) → (r, (v, g, f, d)) ≡ coefficientsCall D p P wanted t x (v, g, f, d)
     unfolding coefficientsCall
-    coefficients-refused = call-refused r _ (leaves D p P side with t (coordinate P side centre x)) (x, v, g, f, d) e
+    coefficients-refused = call-refused r _ (leaves D p P wanted t (matrix P x)) (v, g, f, d) e
 
-    pub coefficients-done : (m : Memory) → r ≡ 0 → m ≡ leaves D p P side with t (coordinate P side centre x) →
-        (0, m) ≡ coefficientsCall D p P side with centre t (x, v, g, f, d)
+    pub coefficients-done : (m : Memory) → r ≡ 0 → m ≡ leaves D p P wanted t (matrix P x) →
+        (0, m) ≡ coefficientsCall D p P wanted t x (v, g, f, d)
     unfolding coefficientsCall
-    coefficients-done m = call-done r _ (leaves D p P side with t (coordinate P side centre x)) (x, v, g, f, d) e m
+    coefficients-done m = call-done r _ (leaves D p P wanted t (matrix P x)) (v, g, f, d) e m

@@ -1,6 +1,6 @@
 pub mod Products
 pub mod Stretches
-pub mod Calls
-pub mod Cells
 pub mod Result
+pub mod Calls
+pub mod Pairs
 pub mod Determined

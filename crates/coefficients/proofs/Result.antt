@@ -10,14 +10,16 @@ use lib.Ieee.{Float, nan, binary64, fits}
 use lib.Ieee.Fits.{div-fits}
 use lib.ListN.{length, getD}
 use Rattle.common.specs.Digits.{digit}
-use Rattle.common.specs.Matrices.{matrix, columnMajor}
+use Rattle.common.specs.Matrices.{columnMajor}
 use Rattle.common.specs.Refusals.{sizeIf}
 use Rattle.common.proofs.Digits.{digit-below}
 use Rattle.common.proofs.Matrices.{some-rows, column-entry, column-cong}
 use Rattle.chebyshev.proofs.Calls.{none}
 use Rattle.axes.specs.Axes.{factorOf, S, S′, onAxes}
-use Rattle.coefficients.specs.Coefficients.{factor, value, gradient, leaves}
-use Rattle.coefficients.specs.Working.{placeOf, startedOf, gradientOf}
+use Rattle.coefficients.specs.Coefficients.{factor, value, gradient, withGradients, leaves}
+use Rattle.coefficients.specs.Working.{placeOf, startedOf, gradientOf, sideOf, filled}
+use Rattle.coefficients.specs.declared.wanted.Wanted.{Wanted}
+use Rattle.coefficients.specs.declared.wanted.Wanted.the-variants.{Values, Gradients}
 use Rattle.coefficients.proofs.Products.{products-at, others-cong}
 
 -- a list that is empty unless it is wanted
@@ -36,14 +38,6 @@ unfolding S factorOf
 S-fits p t n x = div-fits binary64 _ _
 
 module _ (D p P : ℕ) (t : List Float) (x : (i a : ℕ) → Float) (some : 1 ≤ p) where
-  -- S AND S' of all axes: column c is node c % p of axis c / p
-
-  axes-right : (f : ℕ → Float → Float) (y : List Float) → y ≡ columnMajor P D x →
-      columnMajor P (D * p) (onAxes f p (matrix P y)) ≡ columnMajor P (D * p) (onAxes f p x)
-  axes-right f y e =
-      column-cong P (onAxes f p (matrix P y)) (D * p) (onAxes f p x)
-      (λ i c b m. ap (f (c % p)) (rw e (column-entry P x D i (c / p) nan b (div-lt-iff-lt-mul some .1 m))))
-
   -- the entry of node k on axis a
   axis-entry : (f : ℕ → Float → Float) (l : List Float) → l ≡ columnMajor P (D * p) (onAxes f p x) → (i k a : ℕ) → i < P → a < D →
       getD l (placeOf D p P k a + i) nan ≡ f (digit p D a k) (x i a)
@@ -70,20 +64,22 @@ module _ (D p P : ℕ) (t : List Float) (x : (i a : ℕ) → Float) (some : 1 �
         (λ a h d. axis-entry (S p t) factors made i (c % p ^ D) a b h))
 
   -- ALL OF THE MEMORY
-  pub memory-right : (side : Float) (with : Bool) → 1 ≤ D → (y v g₀ g f d₀ d : List Float) →
-      y ≡ columnMajor P D x →
-      f ≡ columnMajor P (D * p) (onAxes (S p t) p (matrix P y)) →
-      length d₀ ≡ sizeIf with (D * p * P) → d ≡ cond with (columnMajor P (D * p) (onAxes (S′ p side t) p (matrix P y))) d₀ →
+  pub memory-right : (side : Float) (with : Bool) → 1 ≤ D → (v g₀ g f d₀ d : List Float) →
+      f ≡ columnMajor P (D * p) (onAxes (S p t) p x) →
+      length d₀ ≡ sizeIf with (D * p * P) → d ≡ cond with (columnMajor P (D * p) (onAxes (S′ p side t) p x)) d₀ →
       length g₀ ≡ sizeIf with (D * p ^ D * P) → g ≡ cond with (columnMajor P (D * p ^ D) (gradientOf D p P d f)) g₀ →
       v ≡ columnMajor P (p ^ D) (startedOf D p P 0 f f) →
-      (y, v, g, f, d) ≡ leaves D p P side with t x
-  unfolding leaves
-  memory-right side with one y v g₀ g f d₀ d hy hf ld hd lg hg hv =
-      let pf = hf ∙ axes-right (S p t) y hy in
-      let slopes = columnMajor P (D * p) (onAxes (S′ p side t) p x) in
-      let pd : d ≡ cond with slopes [] =
-      emptied with _ d slopes d₀ ld (hd ∙ ap (λ (s : List Float). cond with s d₀) (axes-right (S′ p side t) y hy)) in
+      (v, g, f, d) ≡ filled D p P side with t x
+  memory-right side with one v g₀ g f d₀ d hf ld hd lg hg hv =
+      let pd : d ≡ cond with (columnMajor P (D * p) (onAxes (S′ p side t) p x)) [] = emptied with _ d _ d₀ ld hd in
       let pg : g ≡ cond with (columnMajor P (D * p ^ D) (gradient D p t x side)) [] =
-      emptied with _ g _ g₀ lg (hg ∙ if-wanted with _ _ g₀ (λ w. gradients-right f pf side d (rw w at pd))) in
-      let pv = hv ∙ values-right f pf one in
-      rw (hy, pv, pg, pf, pd)
+      emptied with _ g _ g₀ lg (hg ∙ if-wanted with _ _ g₀ (λ w. gradients-right f hf side d (rw w at pd))) in
+      let pv = hv ∙ values-right f hf one in
+      rw (pv, pg, hf, pd)
+
+-- WHAT IS WANTED, by its side and whether it has gradients
+pub wanted-filled : (D p P : ℕ) (wanted : Wanted) (t : List Float) (x : (i a : ℕ) → Float) →
+    filled D p P (sideOf wanted) (withGradients wanted) t x ≡ leaves D p P wanted t x
+unfolding leaves
+wanted-filled D p P Values t x = refl
+wanted-filled D p P (Gradients side) t x = refl

@@ -1,5 +1,5 @@
 -- Approximation coefficients: what each node of a cell counts for at each point, and the slopes of that; and what the call leaves.
-use mathlib.Core.Bool.{Bool, cond, _&&_}
+use mathlib.Core.Bool.{Bool, true, false, cond, _&&_}
 use mathlib.Core.List.{List, []}
 use Prim.Native.Nat.{ℕ, zero, suc, _+_, _*_, _/_, _%_, _^_}
 use lib.Dec.{leb, eqb}
@@ -7,11 +7,14 @@ use lib.Ieee.{Float}
 use lib.ListN.{length}
 use Rattle.common.specs.Digits.{digit}
 use Rattle.common.specs.Floats.{times, one₆₄}
-use Rattle.common.specs.Matrices.{columnMajor}
-use Rattle.common.specs.Refusals.{noDimension, noOrder, noCount, wrongLength, sizeIf, unless, isDimension, isOrder, mostPoints, left}
-use Rattle.coordinates.specs.Coordinates.{coordinate, pointsNumber}
+use Rattle.common.specs.Matrices.{matrix, columnMajor}
+use Rattle.common.specs.Refusals.{noDimension, noOrder, noCount, wrongLength, noCell, notFinite}
+use Rattle.common.specs.Refusals.{sizeIf, unless, isDimension, isOrder, isCell, mostPoints, left}
+use Rattle.coordinates.specs.Coordinates.{allFinite}
 use Rattle.axes.specs.Axes.{S, S′, onAxes}
 use Rattle.coefficients.specs.declared.Lengths.{Lengths}
+use Rattle.coefficients.specs.declared.wanted.Wanted.{Wanted}
+use Rattle.coefficients.specs.declared.wanted.Wanted.the-variants.{Values, Gradients}
 
 -- 1 times f 0, times f 1, .. times f (n - 1)
 unfoldable pub products : (n : ℕ) → (ℕ → Float) → Float
@@ -46,28 +49,39 @@ module _ (D p : ℕ) (polynomials : List Float) (x : (i a : ℕ) → Float) wher
         let k = c % p ^ D in
         others g (slope i k g) D (factor i k)
 
--- the memory that is lent to be written: points, values, gradients, factors, slopes
-abbrev pub Memory : Type 0
-Memory = List Float × List Float × List Float × List Float × List Float
+-- WHAT IS WANTED: values, or values and gradients, which need the cell's side
 
--- What a call that is not refused leaves: matrices of one row a point. The last two are room to work in, and end as S and S' of all axes.
-unfoldable pub leaves : (D p P : ℕ) → (side : Float) → (with : Bool) → (polynomials : List Float) → (x : (i a : ℕ) → Float) → Memory
-leaves D p P side with t x = (
-  columnMajor P D x,
+abbrev pub withGradients : Wanted → Bool
+withGradients Values = false
+withGradients (Gradients side) = true
+
+-- a side is tested only where there is one
+abbrev pub takesSide : Wanted → Bool
+takesSide Values = true
+takesSide (Gradients side) = isCell side
+
+-- the memory that is lent to be written: values, gradients, factors, slopes
+abbrev pub Memory : Type 0
+Memory = List Float × List Float × List Float × List Float
+
+-- What a call that is not refused leaves at coordinates x i a: matrices of one row a point. The last two are room to work in, and end
+-- as S and S' of all axes.
+unfoldable pub leaves : (D p P : ℕ) → Wanted → (polynomials : List Float) → (x : (i a : ℕ) → Float) → Memory
+leaves D p P Values t x = (columnMajor P (p ^ D) (value D p t x), [], columnMajor P (D * p) (onAxes (S p t) p x), [])
+leaves D p P (Gradients side) t x = (
   columnMajor P (p ^ D) (value D p t x),
-  cond with (columnMajor P (D * p ^ D) (gradient D p t x side)) [],
+  columnMajor P (D * p ^ D) (gradient D p t x side),
   columnMajor P (D * p) (onAxes (S p t) p x),
-  cond with (columnMajor P (D * p) (onAxes (S′ p side t) p x)) [],
+  columnMajor P (D * p) (onAxes (S′ p side t) p x),
 )
 
 -- THE CALL
 
 -- how long the lent buffers are
-abbrev pub lengths : (centre polynomials : List Float) → Memory → Lengths
-lengths c t (x, v, g, f, d) =
+abbrev pub lengths : (polynomials coordinates : List Float) → Memory → Lengths
+lengths t x (v, g, f, d) =
     record {
-      points = length x;
-      centre = length c;
+      coordinates = length x;
       polynomials = length t;
       values = length v;
       gradients = length g;
@@ -78,19 +92,19 @@ lengths c t (x, v, g, f, d) =
 -- every buffer has its length
 unfoldable pub lengthsFit : (D p P : ℕ) → (with : Bool) → Lengths → Bool
 lengthsFit D p P with l =
-    eqb (l .points) (D * P) && (eqb (l .centre) D && (eqb (l .polynomials) (p * p) && (eqb (l .values) (p ^ D * P) &&
-    (eqb (l .gradients) (sizeIf with (D * p ^ D * P)) && (eqb (l .factors) (D * p * P) && eqb (l .slopes) (sizeIf with (D * p * P)))))))
+    eqb (l .coordinates) (D * P) && (eqb (l .polynomials) (p * p) && (eqb (l .values) (p ^ D * P) &&
+    (eqb (l .gradients) (sizeIf with (D * p ^ D * P)) && (eqb (l .factors) (D * p * P) && eqb (l .slopes) (sizeIf with (D * p * P))))))
 
-unfoldable pub coefficientsNumber : (D p P : ℕ) → (side : Float) → (centre points : List Float) → (fit : Bool) → ℕ
-coefficientsNumber D p P side centre points fit =
+-- a coordinate outside the cell is taken, and one that is not finite is not
+unfoldable pub coefficientsNumber : (D p P : ℕ) → Wanted → (coordinates : List Float) → (fit : Bool) → ℕ
+coefficientsNumber D p P wanted x fit =
     unless (isDimension D) noDimension
     (unless (isOrder p) noOrder
     (unless (leb P mostPoints) noCount
-    (unless fit wrongLength (pointsNumber D P side centre points))))
+    (unless fit wrongLength (unless (takesSide wanted) noCell (unless (allFinite x) notFinite 0)))))
 
--- the points' reference coordinates are worked out from the cell
-unfoldable pub coefficientsCall : (D p P : ℕ) → (side : Float) → (with : Bool) → (centre polynomials : List Float) → Memory → ℕ × Memory
-coefficientsCall D p P side with centre t (x, v, g, f, d) =
-    let fit = lengthsFit D p P with (lengths centre t (x, v, g, f, d)) in
-    let n = coefficientsNumber D p P side centre x fit in
-    (n, left n (leaves D p P side with t (coordinate P side centre x)) (x, v, g, f, d))
+unfoldable pub coefficientsCall : (D p P : ℕ) → Wanted → (polynomials coordinates : List Float) → Memory → ℕ × Memory
+coefficientsCall D p P wanted t x (v, g, f, d) =
+    let fit = lengthsFit D p P (withGradients wanted) (lengths t x (v, g, f, d)) in
+    let n = coefficientsNumber D p P wanted x fit in
+    (n, left n (leaves D p P wanted t (matrix P x)) (v, g, f, d))

@@ -1,3 +1,4 @@
 pub mod Coefficients
-pub mod Cells
+pub mod Before
+pub mod Pair
 pub mod Working

@@ -1,16 +1,20 @@
 -- What the private functions speak of; no public contract cites it.
 use mathlib.Core.Path.{_≡_}
 use mathlib.Core.Bool.{Bool, cond}
-use mathlib.Core.List.{List}
+use mathlib.Core.List.{List, []}
 use Prim.Native.Nat.{ℕ, zero, suc, _+_, _-_, _*_, _/_, _%_, _^_, _<_, _≤_}
 use lib.Dec.{eqb, leb}
 use lib.Ieee.{Float, nan}
 use lib.ListN.{length, getD}
 use Rattle.common.specs.Digits.{digit}
-use Rattle.common.specs.Floats.{times}
+use Rattle.common.specs.Floats.{times, one₆₄}
+use Rattle.common.specs.Matrices.{columnMajor}
 use Rattle.common.specs.Refusals.{Shape, mostPoints, sizeIf}
-use Rattle.coefficients.specs.Coefficients.{others}
+use Rattle.axes.specs.Axes.{S, S′, onAxes}
+use Rattle.coefficients.specs.Coefficients.{others, value, gradient, Memory}
 use Rattle.coefficients.specs.declared.Lengths.{Lengths}
+use Rattle.coefficients.specs.declared.wanted.Wanted.{Wanted}
+use Rattle.coefficients.specs.declared.wanted.Wanted.the-variants.{Values, Gradients}
 
 -- A COLUMN is a product of as many sources as the dimension says, in their order. A source is a buffer and an axis: at a node it gives
 -- the buffer's column of the node's index on that axis.
@@ -58,12 +62,27 @@ pub record Sources (D p P : ℕ) (axes : ℕ → ℕ) (buffers : ℕ → List Fl
   pub axis : (m : ℕ) → axes m < D
   pub long : (m : ℕ) → length (buffers m) ≡ D * p * P
 
+-- THE CALL
+
+-- the side of what is wanted; where there is none it is not read
+abbrev pub sideOf : Wanted → Float
+sideOf Values = one₆₄
+sideOf (Gradients side) = side
+
+-- what is filled, by a side and whether gradients are wanted
+abbrev pub filled : (D p P : ℕ) → (side : Float) → (with : Bool) → (polynomials : List Float) → (x : (i a : ℕ) → Float) → Memory
+filled D p P side with t x = (
+  columnMajor P (p ^ D) (value D p t x),
+  cond with (columnMajor P (D * p ^ D) (gradient D p t x side)) [],
+  columnMajor P (D * p) (onAxes (S p t) p x),
+  cond with (columnMajor P (D * p) (onAxes (S′ p side t) p x)) [],
+)
+
 -- the call is not refused: a shape, not too many points, and lengths as stated
 pub record Admitted (D p P : ℕ) (with : Bool) (lent : Lengths) : Type 0 where
   pub shape : Shape D p
   pub few : P ≤ mostPoints
-  pub points : lent .points ≡ D * P
-  pub centre : lent .centre ≡ D
+  pub coordinates : lent .coordinates ≡ D * P
   pub polynomials : lent .polynomials ≡ p * p
   pub values : lent .values ≡ p ^ D * P
   pub gradients : lent .gradients ≡ sizeIf with (D * p ^ D * P)

@@ -2,15 +2,18 @@
 mod call;
 mod columns;
 mod limits;
+mod wanted;
 
 pub use axes::Cell;
 pub use call::get_approximation_coefficients;
+pub use coordinates::scale_points;
+pub use coordinates::scaling_number;
 pub use limits::coefficients_number;
+pub use wanted::Wanted;
 
 // The lengths of the lent buffers.
 pub struct Lengths {
-    pub points: usize,
-    pub centre: usize,
+    pub coordinates: usize,
     pub polynomials: usize,
     pub values: usize,
     pub gradients: usize,

@@ -1,4 +1,4 @@
--- In the cell: between the borders; and the centre is. Assumes nothing.
+-- In the cell: between the borders; the centre is, and whatever is there is finite. Assumes nothing.
 use mathlib.Core.Path.{_≡_, refl, sym, _∙_}
 use mathlib.Core.Bool.{true, false, true≢false, _&&_, and-eq-true-iff}
 use Prim.Native.Nat.{ℕ, zero, suc, _-_, _*_, _<_}
@@ -79,3 +79,12 @@ zero-in-cell = refl
 pub centre-in-cell : (side c : Float) → isCell side ≡ true → finite c ≡ true → inCell (coordinateIn side c c) ≡ true
 unfolding coordinateIn
 centre-in-cell side c h f = rw (difference c f, quotient (times side half₆₄) (half-positive side h)) zero-in-cell
+
+-- WHAT IS IN THE CELL is finite
+
+pub cell-finite : (x : Float) → inCell x ≡ true → finite x ≡ true
+unfolding inCell size le lt eq neg ofBits ofFields odd
+cell-finite nan h = absurd (true≢false (sym h))
+cell-finite (inf true) h = absurd (true≢false (sym h))
+cell-finite (inf false) h = absurd (true≢false (sym h))
+cell-finite (fin s m e) h = refl

@@ -1,4 +1,6 @@
 // Coordinates: a physical one says where a point lies, a reference one where it lies in its cell, from -1 to 1.
+mod scaling;
+
 ghost use mathlib.Core.Path.{_≡_};
 ghost use Prim.Native.Nat.{_+_, _*_, _≤_};
 ghost use lib.Ieee.{nan};
@@ -7,6 +9,8 @@ ghost use Rattle.common.specs.Lists.{stretch};
 ghost use Rattle.common.specs.Matrices.{columnMajor};
 ghost use Rattle.common.specs.Tests.{each};
 ghost use Rattle.coordinates.specs.Coordinates.{coordinateIn, allFinite, coordinate, inCell, allInCell, pointsNumber};
+pub use scaling::scale_points;
+pub use scaling::scaling_number;
 
 struct Physical(f64);
 
@@ -75,7 +79,13 @@ fn all_in_cell(dimension: usize, rows: usize, side: f64, centre: &[f64], points:
 }
 
 // The lowest refusal that a cell, its centre and the points bring, or 0.
-pub fn points_number(dimension: usize, rows: usize, side: f64, centre: &[f64], points: &[f64]) -> u8
+pub(crate) fn points_number(
+    dimension: usize,
+    rows: usize,
+    side: f64,
+    centre: &[f64],
+    points: &[f64],
+) -> u8
     requires { ⌜ (dimension ≤ 3) × (length (now centre) ≡ dimension) × (length (now points) ≡ dimension * rows) ⌝ }
     ensures { λ r. ⌜ r ≡ pointsNumber dimension rows side (now (centre .entry)) (now (points .entry)) ⌝ }
 {
@@ -110,7 +120,13 @@ fn scale_axis(rows: usize, side: f64, centre: f64, at: usize, points: &mut [f64]
 }
 
 // All points, in place.
-pub fn scale_points(dimension: usize, rows: usize, side: f64, centre: &[f64], points: &mut [f64])
+pub(crate) fn scale_axes(
+    dimension: usize,
+    rows: usize,
+    side: f64,
+    centre: &[f64],
+    points: &mut [f64],
+)
     requires { ⌜ (dimension ≤ 3) × (length (now centre) ≡ dimension) × (length (now points) ≡ dimension * rows) ⌝ }
     ensures { λ _. ⌜ now (points .exit) ≡
         columnMajor rows dimension (coordinate rows side (now (centre .entry)) (now (points .entry))) ⌝ }

@@ -11,7 +11,7 @@ use Rattle.vectors.specs.Vectors.{isReference, references, entry}
 use Rattle.roots.specs.Values.{floorRoot, nearestRoot, root}
 use Rattle.distances.specs.Distances.{added}
 use Rattle.coordinates.specs.Coordinates.{allFinite, coordinateIn, inCell, allInCell, pointsNumber}
-use Rattle.coefficients.specs.Coefficients.{coefficientsNumber, coefficientsCall, lengthsFit}
+use Rattle.coefficients.specs.Before.{coefficientsNumber, coefficientsCall, lengthsFit}
 use Rattle.ratios.specs.Ratios as ratios
 use Rattle.exchange_format.specs.Lines.{onto, lines, before, from, past, all, same}
 use Rattle.exchange_format.specs.Words.{small, isFirst, isPassed, valueFrom, numeral, size as sizeOf, entry as entryOf}

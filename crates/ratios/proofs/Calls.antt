@@ -12,8 +12,12 @@ use Rattle.common.specs.Floats.{zero₆₄}
 use Rattle.common.specs.Refusals.{isDimension, isOrder, mostPoints, Shape, orderNumber, shapeNumber, lower}
 use Rattle.common.proofs.Cases.{by-bool, by-eq, equal-and}
 use Rattle.common.proofs.Limits.{power-most, shape-out, passed, call-refused, call-done}
-use Rattle.coefficients.specs.Coefficients.{Memory as Below, lengthsFit as coefficientFit, coefficientsNumber, coefficientsCall}
-use Rattle.coefficients.proofs.Calls.{number-taken}
+use Rattle.coordinates.specs.Scaling.{scalingNumber, scaleCall}
+use Rattle.coefficients.specs.Coefficients.{Memory as Found, coefficientsCall as foundAt}
+use Rattle.coefficients.specs.Before.{Memory as Below, lengthsFit as coefficientFit, coefficientsNumber, coefficientsCall}
+use Rattle.coefficients.specs.Pair.{scaled, found}
+use Rattle.coefficients.specs.declared.wanted.Wanted.the-variants.{Values}
+use Rattle.coefficients.proofs.Pairs.{before-taken, lowest-of-two, lowest-asked-first, in-turn}
 use Rattle.ratios.specs.Ratios.{airAt, answersOf, ratiosOf, isFloor, floorNumber, lengthsFit, lengthsNumber, orLast}
 use Rattle.ratios.specs.Ratios.{Memory, below, ratiosNumber, told, ratiosCall}
 use Rattle.ratios.specs.Working.{Evaluated, toldOf}
@@ -52,12 +56,6 @@ empty : (l : List Float) → length l ≡ 0 → l ≡ []
 empty [] h = refl
 empty (x ∷ l) h = absurd (omega arith)
 
--- what the call below leaves in buffers that it was lent empty
-pub without-gradients : (r : ℕ) (x v g f d : List Float) (call : ℕ × Below) → length g ≡ 0 → length d ≡ 0 → (r, (x, v, g, f, d)) ≡ call →
-    (r, (x, v, [], f, [])) ≡ call
-without-gradients r x v g f d call h h' e =
-    ap (λ (l : List Float × List Float). (r, (x, v, l .0, f, l .1))) (sym (rw (empty g h, empty d h'))) ∙ e
-
 -- THE LOWER of two numbers, and the last
 
 lower-first : (m k : ℕ) → (m ≡ 0 → ⊥) → ((k ≡ 0 → ⊥) → m ≤ k) → lower m k ≡ m
@@ -84,6 +82,36 @@ shape-small D p =
     by-bool (isDimension D)
     (λ e. rw e (by-bool (isOrder p) (λ e'. rw e' (omega arith)) (λ e'. rw e' (omega arith))))
     (λ e. rw e (omega arith))
+
+-- THE TWO CALLS BELOW, in turn
+
+abbrev left-below : Below → ℕ × Below
+left-below m = (0, m)
+
+abbrev among : List Float → Found → Below
+among points m = (points, m .0, m .1, m .2, m .3)
+
+module _ (D p P : ℕ) (side : Float) (centre t x v f : List Float) where
+  -- asked before anything is scaled
+  pub below-lowest : (r m n : ℕ) → r ≡ lower m n → m ≡ scalingNumber D P side centre x →
+      n ≡ foundAt D p P Values t x (v, [], f, []) .0 → r ≡ coefficientsCall D p P side false centre t (x, v, [], f, []) .0
+  unfolding scaleCall
+  below-lowest r m n e e' e'' = rw (e, e', e'') (lowest-asked-first D p P side false centre t x v [] f [])
+
+  -- and made
+  pub values-made : coefficientsCall D p P side false centre t (x, v, [], f, []) .0 ≡ 0 → (r k : ℕ) (x' v' g' f' d' : List Float) →
+      (r, x') ≡ scaleCall D P side centre x → length g' ≡ 0 → length d' ≡ 0 →
+      (k, (v', g', f', d')) ≡ foundAt D p P Values t x' (v, [], f, []) →
+      (0, (x', v', [], f', [])) ≡ coefficientsCall D p P side false centre t (x, v, [], f, [])
+  values-made z r k x' v' g' f' d' e lg ld m =
+      let both = lower-none _ _ (lowest-of-two D p P side false centre t x v [] f [] ∙ z) in
+      let points : x' ≡ scaled D p P side false centre t x v [] f [] .1 = ap (λ (s : ℕ × List Float). s .1) e in
+      let rest : (v', g', f', d') ≡ found D p P side false centre t x v [] f [] .1 =
+      ap (λ (s : ℕ × Found). s .1) m ∙ ap (λ (y : List Float). foundAt D p P Values t y (v, [], f, []) .1) points in
+      ap (λ (l : List Float × List Float). left-below (x', v', l .0, f', l .1)) (sym (rw (empty g' lg, empty d' ld)))
+      ∙ ap (λ (m' : Found). left-below (x', m' .0, m' .1, m' .2, m' .3)) rest
+      ∙ ap (λ (y : List Float). left-below (among y (found D p P side false centre t x v [] f [] .1))) points
+      ∙ sym (in-turn D p P side false centre t x v [] f [] (both .0) (both .1))
 
 -- THE CALL
 
@@ -138,13 +166,13 @@ module _ (D p P : ℕ) (side floor : Float) (centre t c n o x v f : List Float) 
     module _ (z : r ≡ 0) where
       pub shape : Shape D p
       unfolding coefficientsCall
-      shape = number-taken D p P side centre x _ (none (sym e ∙ z) .0) .0
+      shape = before-taken D p P side centre x _ (none (sym e ∙ z) .0) .0
 
       -- what the call for coefficients takes: few points, and values for all nodes at all points
       values-long : (P ≤ mostPoints) × (length v ≡ p ^ D * P)
       unfolding coefficientsCall coefficientFit
       values-long =
-          let h = number-taken D p P side centre x _ (none (sym e ∙ z) .0) in
+          let h = before-taken D p P side centre x _ (none (sym e ∙ z) .0) in
           let points = equal-and (length x) (D * P) _ (h .2) in
           let axes = equal-and (length centre) D _ (points .1) in
           let polynomials = equal-and (length t) (p * p) _ (axes .1) in

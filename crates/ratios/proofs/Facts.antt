@@ -15,7 +15,8 @@ use Rattle.common.proofs.Matrices.{column-entry}
 use Rattle.common.proofs.Orders.{at-least}
 use Rattle.common.proofs.Sums.{sums-cong}
 use Rattle.coordinates.specs.Coordinates.{coordinate}
-use Rattle.coefficients.specs.Coefficients.{Memory as Below, value, leaves as coefficientsLeft, coefficientsCall}
+use Rattle.coefficients.specs.Coefficients.{value}
+use Rattle.coefficients.specs.Before.{Memory as Below, leaves as coefficientsLeft, coefficientsCall}
 use Rattle.ratios.specs.Ratios.{ratio, numberOf, ratioOr, field, airAt, answersOf, ratiosOf, isFloor, floorNumber, Memory, below}
 use Rattle.ratios.specs.Ratios.{ratiosNumber, told, ratiosCall}
 use Rattle.ratios.specs.Facts.{Done, FloorIsRight, answer, shown, RatioIsRight, UnusableIsRight, FreshIsRight, OneOfThree}

@@ -10,7 +10,7 @@ use Rattle.common.specs.Floats.{minus, times, over, zero₆₄, inner}
 use Rattle.common.specs.Lists.{tabulate}
 use Rattle.common.specs.Matrices.{matrix}
 use Rattle.common.specs.Refusals.{wrongLength, noFloor, lower, unless, left}
-use Rattle.coefficients.specs.Coefficients.{Memory as Below, coefficientsCall}
+use Rattle.coefficients.specs.Before.{Memory as Below, coefficientsCall}
 use Rattle.ratios.specs.declared.air.Air.{Air}
 use Rattle.ratios.specs.declared.air.Air.the-variants.{Ratio, Unusable, Fresh}
 
@@ -79,7 +79,7 @@ isFloor floor = lt zero₆₄ floor && finite floor
 unfoldable pub floorNumber : (floor : Float) → ℕ
 floorNumber floor = unless (isFloor floor) noFloor 0
 
--- every buffer that the call for coefficients does not take has its length
+-- every buffer that scaling and coefficients do not take has its length
 unfoldable pub lengthsFit : (N P : ℕ) → (carbonMonoxide nitrogen oxygen : List Float) → (answers : List ℕ) → (ratios : List Float) → Bool
 lengthsFit N P c n o a r =
     eqb (length c) N && (eqb (length n) N && (eqb (length o) N && (eqb (length a) P && eqb (length r) P)))
@@ -92,16 +92,16 @@ unfoldable pub orLast : (number last : ℕ) → ℕ
 orLast n last = cond (eqb n 0) last n
 
 module _ (D p P : ℕ) (side floor : Float) (centre polynomials carbonMonoxide nitrogen oxygen : List Float) where
-  -- the call for coefficients, without gradients
+  -- points scaled and their coefficients, without gradients
   abbrev pub below : (points values factors : List Float) → ℕ × Below
   below x v f = coefficientsCall D p P side false centre polynomials (x, v, [], f, [])
 
-  -- what that call refuses with, or a length of our own, the lower of the two; after all others the floor
+  -- what those refuse with, or a length of our own, the lower of the two; after all others the floor
   unfoldable pub ratiosNumber : Memory → ℕ
   ratiosNumber (x, v, f, a, r) =
       orLast (lower (below x v f .0) (lengthsNumber (p ^ D) P carbonMonoxide nitrogen oxygen a r)) (floorNumber floor)
 
-  -- points, values and factors as that call leaves them, and what is said of the air
+  -- points, values and factors as those leave them, and what is said of the air
   unfoldable pub told : Memory → Memory
   told (x, v, f, a, r) =
       let made = below x v f .1 in

@@ -6,15 +6,17 @@ mod limits;
 ghost use mathlib.Core.Path.{_≡_};
 ghost use mathlib.Core.Bool.{false};
 ghost use mathlib.Core.List.{[]};
-ghost use Rattle.coefficients.specs.Coefficients.{coefficientsCall};
+ghost use Rattle.coefficients.specs.Before.{coefficientsCall};
 ghost use Rattle.ratios.specs.Ratios.{ratiosCall};
 use crate::fields::fill_answers;
 use crate::limits::ratios_number;
 pub use air::Air;
 use coefficients::Cell;
+use coefficients::Wanted;
 use coefficients::get_approximation_coefficients;
+use coefficients::scale_points;
 
-// The value coefficients: the call below, without gradients.
+// The points scaled, and the value coefficients there. That both calls accept is known beforehand.
 fn fill_values(
     cell: Cell,
     centre: &[f64],
@@ -22,24 +24,28 @@ fn fill_values(
     points: &mut [f64],
     values: &mut [f64],
     factors: &mut [f64],
-) -> u8
-    ensures { λ r. ⌜ (r, (now (points .exit), now (values .exit), [], now (factors .exit), [])) ≡
+)
+    requires { ⌜ coefficientsCall (cell .dimension) (cell .order) (cell .rows) (cell .side) false (now centre)
+        (now «node_polynomials») (now points, now values, [], now factors, []) .0 ≡ 0 ⌝ }
+    ensures { λ _. ⌜ (0, (now (points .exit), now (values .exit), [], now (factors .exit), [])) ≡
         coefficientsCall (cell .dimension) (cell .order) (cell .rows) (cell .side) false (now (centre .entry))
         (now («node_polynomials» .entry)) (now (points .entry), now (values .entry), [], now (factors .entry), []) ⌝ }
 {
+    scale_points(cell.dimension, cell.rows, cell.side, centre, points);
     let mut no_gradients = [0.0; 0];
     let mut no_slopes = [0.0; 0];
     get_approximation_coefficients(
-        cell,
-        false,
-        centre,
+        cell.dimension,
+        cell.order,
+        cell.rows,
+        Wanted::Values,
         node_polynomials,
         points,
         values,
         &mut no_gradients,
         factors,
         &mut no_slopes,
-    )
+    );
 }
 
 // The ratio 100 * CO / (0.265 * N2 - O2) at each of the points, where the deficiency below it is at least the floor: an answer a

@@ -4,10 +4,12 @@ ghost use mathlib.Core.Bool.{false};
 ghost use mathlib.Core.List.{[]};
 ghost use Prim.Native.Nat.{_^_};
 ghost use Rattle.common.specs.Refusals.{Shape};
-ghost use Rattle.coefficients.specs.Coefficients.{coefficientsCall};
+ghost use Rattle.coefficients.specs.Before.{coefficientsCall};
 ghost use Rattle.ratios.specs.Ratios.{lengthsFit, lengthsNumber, floorNumber, orLast, ratiosNumber};
 use coefficients::Cell;
+use coefficients::Wanted;
 use coefficients::coefficients_number;
+use coefficients::scaling_number;
 
 // Whether the buffers that the call below does not take have their lengths.
 fn lengths_fit(
@@ -84,7 +86,7 @@ fn or_last(refused: u8, last: u8) -> u8
     if refused == 0 { last } else { refused }
 }
 
-// What the call for coefficients would answer, without gradients.
+// What the two calls below would answer, the lower of their numbers. Both are asked about the points as they came.
 fn below_number(
     cell: Cell,
     centre: &[f64],
@@ -98,17 +100,20 @@ fn below_number(
         (now («node_polynomials» .entry)) (now (points .entry), now (values .entry), [], now (factors .entry), []) .0 ⌝ }
 {
     let none = [0.0; 0];
-    coefficients_number(
-        cell,
-        false,
-        centre,
+    let unscaled = scaling_number(cell.dimension, cell.rows, cell.side, centre, points);
+    let unfound = coefficients_number(
+        cell.dimension,
+        cell.order,
+        cell.rows,
+        Wanted::Values,
         node_polynomials,
         points,
         values,
         &none,
         factors,
         &none,
-    )
+    );
+    common::lower_of(unscaled, unfound)
 }
 
 // The lowest refusal, or 0. The shape comes first, since the nodes are counted by it.

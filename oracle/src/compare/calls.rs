@@ -22,6 +22,8 @@ pub enum Call {
     Spoilt,
     Ratios,
     Air,
+    Coordinates,
+    GradientsAnywhere,
 }
 
 /// Each call, the name that its cases are counted under, and what the count is divided by for it.
@@ -29,8 +31,11 @@ pub enum Call {
 /// A call that is asked in two ways has half of the cases for each, and the coefficients half of that,
 /// since the program clears megabytes before each of them; and so have the ratios, which are made of them.
 ///
+/// The text scales points and finds their coefficients in one call, and the library in two. Points in the
+/// cell go through both, and coordinates anywhere through the second alone.
+///
 /// A new call stands last, so that a seed still draws the same for the others.
-pub const CALLS: [(Call, &str, usize); 16] = [
+pub const CALLS: [(Call, &str, usize); 18] = [
     (Call::Polynomials, "polynomials", 2),
     (Call::Derivatives, "polynomials with derivatives", 2),
     (Call::Operators, "operators", 1),
@@ -47,6 +52,12 @@ pub const CALLS: [(Call, &str, usize); 16] = [
     (Call::Spoilt, "restart mode, spoilt rows", 1),
     (Call::Ratios, "ratios, gases of any floats", 4),
     (Call::Air, "ratios, air about the floor", 4),
+    (Call::Coordinates, "coefficients, coordinates anywhere", 4),
+    (
+        Call::GradientsAnywhere,
+        "coefficients with gradients, coordinates anywhere",
+        4,
+    ),
 ];
 
 impl Call {
@@ -75,6 +86,8 @@ impl Call {
             Self::Spoilt => blocks::ask_spoilt(random, stream)?,
             Self::Ratios => maps::any(random, stream),
             Self::Air => maps::air(random, stream),
+            Self::Coordinates => cases::coordinates(random, stream, false),
+            Self::GradientsAnywhere => cases::coordinates(random, stream, true),
         }
         Ok(())
     }

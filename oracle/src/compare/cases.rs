@@ -100,6 +100,21 @@ pub fn coefficients(random: &mut Random, stream: &mut Stream, with_gradients: bo
     coefficients::ask(stream, &cell(random, with_gradients));
 }
 
+/// Coefficients at coordinates anywhere, most of them outside the cell.
+///
+/// In half of the cases the cell lies about 0 and has length 2, where the text's scaling leaves all floats
+/// as they are, so that the coordinates are of every sort that is drawn.
+pub fn coordinates(random: &mut Random, stream: &mut Stream, with_gradients: bool) {
+    let mut cell = cell(random, with_gradients);
+    cell.points = draw::finite_floats(random, cell.points.len());
+    if random.below(2) == 0 {
+        cell.centre.fill(0.0);
+        cell.length = 2.0;
+    }
+    coefficients::keep_finite(cell.length, &cell.centre, &mut cell.points);
+    coefficients::ask_at_coordinates(stream, &cell);
+}
+
 /// A mask of ones only, of zeros only, of as many of each, or of few ones.
 fn mask(random: &mut Random, count: usize) -> Vec<u8> {
     let bytes = random.one_of(&[[1, 1, 1, 1], [0, 0, 0, 0], [0, 1, 0, 1], [0, 0, 0, 1]]);

@@ -3,7 +3,7 @@
 mod held;
 mod refusals;
 
-use bbfmm::{Air, Cell, get_approximation_coefficients};
+use bbfmm::{Air, Cell, get_approximation_coefficients, scale_points};
 
 use crate::draw::{Draw, SPECIAL};
 use crate::held::same_floats;
@@ -193,7 +193,7 @@ fn special_fields_are_ruled() {
     met.tally.reached("special fields", &[0]);
 }
 
-/// The room that is lent ends as the coefficient call leaves it.
+/// The room that is lent ends as scaling and the coefficient call leave it.
 #[test]
 fn the_room_is_that_of_the_coefficients() {
     let mut draw = Draw::new(44);
@@ -212,11 +212,13 @@ fn the_room_is_that_of_the_coefficients() {
             continue;
         }
         let [mut points, mut values, mut factors, _] = before.floats;
+        scale_points(cell.dimension, cell.length, centre, &mut points)
+            .expect("what ratios are given for is in the cell");
         get_approximation_coefficients(
-            cell,
-            centre,
+            cell.dimension,
+            cell.order,
             node_polynomials,
-            &mut points,
+            &points,
             &mut values,
             &mut factors,
             None,

@@ -1,6 +1,7 @@
 //! The rules of document 01 and of the requests that followed it, one file for each part. A rule
 //! answers what the call must leave, or a refusal's number.
 
+pub mod before;
 pub mod chebyshev;
 pub mod choices;
 pub mod coefficients;

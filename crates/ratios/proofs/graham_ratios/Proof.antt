@@ -1,6 +1,7 @@
 -- `ratios::graham_ratios` meets its contract: refused, or told from the coefficients. Assumes nothing.
 use borrow.Author.Needs.{needs}
-use Rattle.ratios.proofs.Calls.{shape, evaluated, ratios-refused, ratios-done}
+use mathlib.Core.Path.{sym, _∙_}
+use Rattle.ratios.proofs.Calls.{none, shape, evaluated, ratios-refused, ratios-done}
 use Rattle.ratios.proofs.graham_ratios.Statement.{statement}
 use Rattle.ratios.proofs.graham_ratios.Tie as tie
 
@@ -36,7 +37,12 @@ returns c =
 -- `e` is the place past the test
 
 fill-values-requires : tie.Need-fill-values-requires
-fill-values-requires c κs = search needs
+fill-values-requires c κs =
+    let e = c .before .before .before in
+    let a = start (e .before) .args in
+    none (a .cell .dimension) (a .cell .order) (a .cell .rows) (a .cell .side) (a .floor) (a .centre .now) (a .node-polynomials .now)
+    (a .carbon-monoxide .now) (a .nitrogen .now) (a .oxygen .now) (a .points .now) (a .values .now) (a .factors .now) (a .answers .now)
+    (a .ratios .now) (sym (e .before .ratios-number .ensures) ∙ e .if1 .left) .0
 
 power-requires : tie.Need-power-requires
 power-requires c κs =

@@ -1,153 +1,180 @@
-//! What the nodes of a cell count for at points in it, and the slopes of that.
-
-use bbfmm::Cell;
+//! Points scaled into their cell, and what the nodes count for at reference coordinates: documents 01 to
+//! 03, request E7.
 
 use super::chebyshev::{derivatives, polynomials};
 use super::{
     bad_cell, bad_dimension, bad_length, bad_order, dot, indices, nodes_of_block, refusal,
 };
 
-/// What is lent: points, values, gradients, factors, slopes.
-pub type Lent = [Vec<f64>; 5];
+/// The most points of a call.
+const MOST_POINTS: usize = 4096;
 
-fn check(
-    cell: Cell,
-    with_gradients: bool,
-    centre: &[f64],
-    node_polynomials: &[f64],
-    lent: &Lent,
-) -> Result<(), u8> {
-    let Cell {
+/// How many whole rows of D entries a list has.
+pub fn rows_of(list: &[f64], dimension: usize) -> usize {
+    if dimension == 0 {
+        0
+    } else {
+        list.len() / dimension
+    }
+}
+
+fn not_finite(list: &[f64]) -> bool {
+    list.iter().any(|float| !float.is_finite())
+}
+
+/// Where points are to be scaled.
+#[derive(Clone, Copy, Debug)]
+pub struct Frame<'a> {
+    pub dimension: usize,
+    pub length: f64,
+    pub centre: &'a [f64],
+}
+
+/// Each point's reference coordinate on each axis, a column an axis. Lists that do not fit are cut.
+fn scaled(frame: Frame, points: &[f64]) -> Vec<f64> {
+    let half = frame.length * 0.5;
+    let columns = points.chunks(rows_of(points, frame.dimension).max(1));
+    let axes = columns.zip(frame.centre);
+    axes.flat_map(|(column, middle)| column.iter().map(move |point| (point - middle) / half))
+        .collect()
+}
+
+/// What the points become.
+pub fn scale(frame: Frame, points: &[f64]) -> Result<[Vec<f64>; 1], u8> {
+    let Frame {
         dimension,
-        order,
         length,
-        rows,
-    } = cell;
-    let nodes = nodes_of_block(dimension, order);
-    let wanted = usize::from(with_gradients);
-    let not_finite = |list: &[f64]| list.iter().any(|coordinate| !coordinate.is_finite());
+        centre,
+    } = frame;
+    let rows = rows_of(points, dimension);
+    let found = scaled(frame, points);
+    let border = 1.0 + 2f64.powi(-20);
     refusal(&[
-        (11, is_outside(cell, centre, &lent[0])),
-        (9, not_finite(centre) || not_finite(&lent[0])),
+        (11, found.iter().any(|coordinate| coordinate.abs() > border)),
+        (9, not_finite(centre) || not_finite(points)),
         bad_cell(length),
         bad_length(centre, &[dimension]),
-        bad_length(node_polynomials, &[order, order]),
-        bad_length(&lent[0], &[rows, dimension]),
-        bad_length(&lent[1], &[rows, nodes]),
-        bad_length(&lent[2], &[wanted, rows, nodes, dimension]),
-        bad_length(&lent[3], &[rows, dimension, order]),
-        bad_length(&lent[4], &[wanted, rows, dimension, order]),
-        (3, rows > 4096),
-        bad_order(order),
+        bad_length(points, &[rows, dimension]),
+        (3, rows > MOST_POINTS),
         bad_dimension(dimension),
-    ])
+    ])?;
+    Ok([found])
 }
 
-/// Where a point lies in the cell, on one axis: (point - centre)/(length*0.5).
-fn coordinate(length: f64, centre: f64, point: f64) -> f64 {
-    (point - centre) / (length * 0.5)
+/// What is asked about: the nodes of a cell, at coordinates; and the cell's length, where gradients are
+/// wanted.
+#[derive(Clone, Copy, Debug)]
+pub struct Asked<'a> {
+    pub dimension: usize,
+    pub order: usize,
+    pub length: Option<f64>,
+    pub node_polynomials: &'a [f64],
+    pub coordinates: &'a [f64],
 }
 
-/// A reference coordinate is above 1 + 2^-20 in size. Lists that do not fit are refused before.
-fn is_outside(cell: Cell, centre: &[f64], points: &[f64]) -> bool {
-    let border = 1.0 + 2f64.powi(-20);
-    let axes = points.chunks(cell.rows.max(1)).zip(centre);
-    let is_out = |(column, middle): (&[f64], &f64)| {
-        let size = |point: &f64| coordinate(cell.length, *middle, *point).abs();
-        column.iter().any(|point| size(point) > border)
-    };
-    axes.into_iter().any(is_out)
-}
+/// What is lent to be written: values, gradients, factors, slopes.
+pub type Lent = [Vec<f64>; 4];
 
-/// S of each index at a reference coordinate: (sum*2 - 1)/p.
-fn shares(order: usize, node_polynomials: &[f64], x: f64) -> Vec<f64> {
-    let t = polynomials(order, x);
-    let share = |index: usize| {
-        let at_node = (0..order).map(|k| node_polynomials[index + k * order]);
-        (dot(t.iter().copied(), at_node) * 2.0 - 1.0) / order as f64
-    };
-    (0..order).map(share).collect()
-}
-
-/// S' of each index there: (sum * (2/p)) * (2/length), with T' at the point.
-fn share_slopes(order: usize, length: f64, node_polynomials: &[f64], x: f64) -> Vec<f64> {
-    let d = derivatives(order, x);
-    let slope = |index: usize| {
-        let at_node = (0..order).map(|k| node_polynomials[index + k * order]);
-        let sum = dot(d.iter().copied(), at_node);
-        (sum * (2.0 / order as f64)) * (2.0 / length)
-    };
-    (0..order).map(slope).collect()
-}
-
-/// For each axis and each index, the floats of all points: one column of a working buffer.
-fn by_axis(cell: Cell, scaled: &[f64], rule: impl Fn(f64) -> Vec<f64>) -> Vec<Vec<Vec<f64>>> {
-    let axis = |axis: usize| {
-        let column = &scaled[axis * cell.rows..(axis + 1) * cell.rows];
-        let at_points: Vec<_> = column.iter().map(|&x| rule(x)).collect();
-        let of_index = |index: usize| at_points.iter().map(|list| list[index]).collect();
-        (0..cell.order).map(of_index).collect()
-    };
-    (0..cell.dimension).map(axis).collect()
-}
-
-/// A value column: 1 times the axis factors in axis order.
-fn value(factors: &[Vec<Vec<f64>>], places: &[usize], row: usize) -> f64 {
-    let axes = places.iter().enumerate();
-    axes.fold(1.0, |product, (axis, &index)| {
-        product * factors[axis][index][row]
-    })
-}
-
-/// A gradient column: S' of axis g, then the other axes in order.
-fn gradient(
-    factors: &[Vec<Vec<f64>>],
-    slopes: &[Vec<Vec<f64>>],
-    places: &[usize],
-    [g, row]: [usize; 2],
-) -> f64 {
-    let others = places.iter().enumerate().filter(|(axis, _)| *axis != g);
-    let start = slopes[g][places[g]][row];
-    others.fold(start, |product, (axis, &index)| {
-        product * factors[axis][index][row]
-    })
-}
-
-/// What all five lent buffers become.
-pub fn coefficients(
-    cell: Cell,
-    with_gradients: bool,
-    centre: &[f64],
-    node_polynomials: &[f64],
-    lent: &Lent,
-) -> Result<Lent, u8> {
-    check(cell, with_gradients, centre, node_polynomials, lent)?;
-    let Cell {
-        dimension,
-        order,
-        length,
-        rows,
-    } = cell;
-    let nodes = nodes_of_block(dimension, order);
-    let scale = |(place, point): (usize, &f64)| coordinate(length, centre[place / rows], *point);
-    let scaled: Vec<f64> = lent[0].iter().enumerate().map(scale).collect();
-    let factors = by_axis(cell, &scaled, |x| shares(order, node_polynomials, x));
-    let slopes = by_axis(cell, &scaled, |x| {
-        share_slopes(order, length, node_polynomials, x)
-    });
-    let mut values = vec![];
-    let mut gradients = vec![];
-    for node in 0..nodes {
-        let places = indices(dimension, order, node);
-        values.extend((0..rows).map(|row| value(&factors, &places, row)));
+impl Asked<'_> {
+    fn rows(&self) -> usize {
+        rows_of(self.coordinates, self.dimension)
     }
-    let last = if with_gradients { dimension * nodes } else { 0 };
-    for column in 0..last {
-        let places = indices(dimension, order, column % nodes);
-        let at = |row: usize| gradient(&factors, &slopes, &places, [column / nodes, row]);
-        gradients.extend((0..rows).map(at));
+
+    fn check(&self, lent: &Lent) -> Result<(), u8> {
+        let Self {
+            dimension,
+            order,
+            length,
+            node_polynomials,
+            coordinates,
+        } = *self;
+        let (rows, nodes) = (self.rows(), nodes_of_block(dimension, order));
+        let wanted = usize::from(length.is_some());
+        let [values, gradients, factors, slopes] = lent;
+        refusal(&[
+            (9, not_finite(coordinates)),
+            length.map_or((8, false), bad_cell),
+            bad_length(node_polynomials, &[order, order]),
+            bad_length(coordinates, &[rows, dimension]),
+            bad_length(values, &[rows, nodes]),
+            bad_length(gradients, &[wanted, rows, dimension, nodes]),
+            bad_length(factors, &[rows, dimension, order]),
+            bad_length(slopes, &[wanted, rows, dimension, order]),
+            (3, rows > MOST_POINTS),
+            bad_order(order),
+            bad_dimension(dimension),
+        ])
     }
-    let flat = |columns: Vec<Vec<Vec<f64>>>| columns.concat().concat();
-    let slopes = if with_gradients { flat(slopes) } else { vec![] };
-    Ok([scaled, values, gradients, flat(factors), slopes])
+
+    /// The sum of the products of a list with T of one node.
+    fn sum(&self, list: &[f64], node: usize) -> f64 {
+        let at_node = self.node_polynomials[node..].iter().step_by(self.order);
+        dot(list.iter().copied(), at_node.copied())
+    }
+
+    /// A float for each axis, node of the axis and point, in this order.
+    fn of_axes(&self, rule: impl Fn(f64, usize) -> f64) -> Vec<f64> {
+        let mut list = vec![];
+        for axis in 0..self.dimension {
+            for node in 0..self.order {
+                let column = &self.coordinates[axis * self.rows()..][..self.rows()];
+                list.extend(column.iter().map(|x| rule(*x, node)));
+            }
+        }
+        list
+    }
+
+    /// S = (sum*2 - 1)/p.
+    fn factors(&self) -> Vec<f64> {
+        self.of_axes(|x, node| {
+            let sum = self.sum(&polynomials(self.order, x), node);
+            (sum * 2.0 - 1.0) / self.order as f64
+        })
+    }
+
+    /// S' = (sum * (2/p)) * (2/length), with T' at the point.
+    fn slopes(&self, length: f64) -> Vec<f64> {
+        self.of_axes(|x, node| {
+            let sum = self.sum(&derivatives(self.order, x), node);
+            (sum * (2.0 / self.order as f64)) * (2.0 / length)
+        })
+    }
+
+    /// A column for each node: at each point the product of these floats, one an axis, from the first on.
+    fn columns(&self, axes: &[(usize, &[f64])]) -> Vec<f64> {
+        let mut list = vec![];
+        for node in 0..nodes_of_block(self.dimension, self.order) {
+            let places = indices(self.dimension, self.order, node);
+            for row in 0..self.rows() {
+                let float = |&(axis, floats): &(usize, &[f64])| {
+                    floats[(axis * self.order + places[axis]) * self.rows() + row]
+                };
+                list.push(axes.iter().map(float).fold(1.0, |all, one| all * one));
+            }
+        }
+        list
+    }
+
+    /// The columns of axis g: S' of this axis, then S of the others in order.
+    fn gradients(&self, g: usize, factors: &[f64], slopes: &[f64]) -> Vec<f64> {
+        let others = (0..self.dimension).filter(|axis| *axis != g);
+        let mut axes = vec![(g, slopes)];
+        axes.extend(others.map(|axis| (axis, factors)));
+        self.columns(&axes)
+    }
+
+    /// What all four lent buffers become.
+    pub fn coefficients(&self, lent: &Lent) -> Result<Lent, u8> {
+        self.check(lent)?;
+        let factors = self.factors();
+        let slopes = self.length.map_or(vec![], |length| self.slopes(length));
+        let axes: Vec<_> = (0..self.dimension)
+            .map(|axis| (axis, &factors[..]))
+            .collect();
+        let values = self.columns(&axes);
+        let wanted = self.length.map_or(0..0, |_| 0..self.dimension);
+        let gradients = wanted.flat_map(|g| self.gradients(g, &factors, &slopes));
+        let gradients = gradients.collect();
+        Ok([values, gradients, factors, slopes])
+    }
 }

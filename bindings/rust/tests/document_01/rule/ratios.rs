@@ -2,7 +2,7 @@
 
 use bbfmm::{Cell, Gases};
 
-use super::coefficients::coefficients;
+use super::before::coefficients;
 use super::{bad_length, dot, nodes_of_block, refusal};
 
 /// Why a point has no ratio.
@@ -26,7 +26,8 @@ pub struct Lent {
     pub answers: Vec<u8>,
 }
 
-/// Points, values and factors as the coefficient call leaves them, or its number.
+/// Points, values and factors as scaling and the coefficient call leave them, or the lowest number of the
+/// two.
 fn below(map: &Map, lent: &Lent) -> Result<[Vec<f64>; 3], u8> {
     let Map {
         cell,

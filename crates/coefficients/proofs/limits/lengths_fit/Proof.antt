@@ -40,28 +40,26 @@ abbrev past-three : tie.Else3 → tie.Else2
 past-three c = c .before .before
 
 abbrev past-four : tie.Else4 → tie.Else3
-past-four c = c .before .before
+past-four c = c .before .before .before
 
 abbrev past-five : tie.Else5 → tie.Else4
-past-five c = c .before .before .before
-
-abbrev past-six : tie.Else6 → tie.Else5
-past-six c = c .before .before
+past-five c = c .before .before
 
 -- the two lengths that are tested against the nodes' number
-values-fit : (c : tie.Else4) →
-    let a = c .before .before .before .before .before .before .before .before .before .args in a .lent .values ≡
-    a .order ^ a .dimension * a .rows
-values-fit c = c .if4 .left ∙ ap (λ (n : ℕ). n * c .before .before .before .before .before .before .before .before .before .args .rows)
-    (c .before .before .before .before .before .before .before .before .power .ensures)
+values-fit : (c : tie.Else3) →
+    let a = past-one (past-two (past-three c)) .before .args in a .lent .values ≡ a .order ^ a .dimension * a .rows
+values-fit c =
+    let t = past-one (past-two (past-three c)) in
+    c .if3 .left ∙ ap (λ (n : ℕ). n * t .before .args .rows) (t .power .ensures)
 
-gradients-fit : (c : tie.Else5) →
-    let a = c .before .before .before .before .before .before .before .before .before .before .before .before .args in a .lent .gradients
-    ≡ sizeIf (a .with-gradients) (a .dimension * a .order ^ a .dimension * a .rows)
+gradients-fit : (c : tie.Else4) →
+    let a = past-one (past-two (past-three (past-four c))) .before .args in
+    a .lent .gradients ≡ sizeIf (a .is-derived) (a .dimension * a .order ^ a .dimension * a .rows)
 gradients-fit c =
-    let a = c .before .before .before .before .before .before .before .before .before .before .before .before .args in
-    c .if5 .left ∙ c .before .before .size-if .ensures ∙ ap (λ (n : ℕ). sizeIf (a .with-gradients) (a .dimension * n * a .rows))
-    (c .before .before .before .before .before .before .before .before .before .before .before .power .ensures)
+    let t = past-one (past-two (past-three (past-four c))) in
+    let a = t .before .args in
+    c .if4 .left ∙ c .before .before .size-if .ensures
+    ∙ ap (λ (n : ℕ). sizeIf (a .is-derived) (a .dimension * n * a .rows)) (t .power .ensures)
 
 -- THE TESTS AND THE RETURNS
 
@@ -78,43 +76,36 @@ returns : tie.Need-returns
 unfolding lengthsFit
 returns c = rw (ne-eqb _ _ (c .if1 .taken))
 
+mul-if2 : tie.Need-mul-if2
+mul-if2 c =
+    let t = past-one c in
+    omega (arith, small (t .before .args .order) (t .before .args .order) 16 16 (order-most t) (order-most t))
+
 returns-2 : tie.Need-returns-2
 unfolding lengthsFit
 returns-2 c = let e1 = c .before .before in rw (eq-eqb _ _ (e1 .if1 .left), ne-eqb _ _ (c .if2 .taken))
 
 mul-if3 : tie.Need-mul-if3
-mul-if3 c = let t = past-one (past-two c) in let a = t .before .args in omega
-    (arith, small (a .order) (a .order) 16 16 (order-most t) (order-most t))
+mul-if3 c =
+    let t = past-one (past-two c) in
+    omega (arith, small (t .power .result) (t .before .args .rows) 4096 4096 (nodes t) (few t))
 
 returns-3 : tie.Need-returns-3
 unfolding lengthsFit
 returns-3 c =
     let e2 = c .before .before in
     let e1 = past-two e2 in
-    rw (eq-eqb _ _ (e1 .if1 .left), eq-eqb _ _ (e2 .if2 .left), ne-eqb _ _ (c .if3 .taken))
-
-mul-if4 : tie.Need-mul-if4
-mul-if4 c =
-    let t = past-one (past-two (past-three c)) in
-    omega (arith, small (t .power .result) (t .before .args .rows) 4096 4096 (nodes t) (few t))
-
-returns-4 : tie.Need-returns-4
-unfolding lengthsFit
-returns-4 c =
-    let e3 = c .before .before in
-    let e2 = past-three e3 in
-    let e1 = past-two e2 in
     let n = past-one e1 .power .ensures in
-    rw (eq-eqb _ _ (e1 .if1 .left), eq-eqb _ _ (e2 .if2 .left), eq-eqb _ _ (e3 .if3 .left), ne-eqb _ _ (rw n at (c .if4 .taken)))
+    rw (eq-eqb _ _ (e1 .if1 .left), eq-eqb _ _ (e2 .if2 .left), ne-eqb _ _ (rw n at (c .if3 .taken)))
 
 mul-size-if : tie.Need-mul-size-if
 mul-size-if c =
-    let t = past-one (past-two (past-three (past-four c))) in
+    let t = past-one (past-two (past-three c)) in
     omega (arith, small (t .before .args .dimension) (t .power .result) 3 4096 (dimension-most t) (nodes t))
 
 mul-size-if-2 : tie.Need-mul-size-if-2
 mul-size-if-2 c =
-    let t = past-one (past-two (past-three (past-four c))) in
+    let t = past-one (past-two (past-three c)) in
     let a = t .before .args in
     let columns = small (a .dimension) (t .power .result) 3 4096 (dimension-most t) (nodes t) in
     omega (arith, small (a .dimension * t .power .result) (a .rows) 12288 4096 columns (few t))
@@ -122,28 +113,47 @@ mul-size-if-2 c =
 size-if-requires : tie.Need-size-if-requires
 size-if-requires c κs = search needs
 
-returns-5 : tie.Need-returns-5
+returns-4 : tie.Need-returns-4
 unfolding lengthsFit
-returns-5 c =
-    let e4 = c .before .before .before in
-    let e3 = past-four e4 in
+returns-4 c =
+    let e3 = c .before .before .before in
     let e2 = past-three e3 in
     let e1 = past-two e2 in
     let n = past-one e1 .power .ensures in
     rw (
       eq-eqb _ _ (e1 .if1 .left),
       eq-eqb _ _ (e2 .if2 .left),
-      eq-eqb _ _ (e3 .if3 .left),
-      eq-eqb _ _ (values-fit e4),
-      ne-eqb _ _ (rw (c .before .before .size-if .ensures, n) at (c .if5 .taken)),
+      eq-eqb _ _ (values-fit e3),
+      ne-eqb _ _ (rw (c .before .before .size-if .ensures, n) at (c .if4 .taken)),
     )
 
-mul-if6 : tie.Need-mul-if6
-mul-if6 c =
-    let t = past-one (past-two (past-three (past-four (past-five c)))) in
+mul-if5 : tie.Need-mul-if5
+mul-if5 c =
+    let t = past-one (past-two (past-three (past-four c))) in
     let a = t .before .args in
     let columns = small (a .dimension) (a .order) 3 16 (dimension-most t) (order-most t) in
     omega (arith, small (a .dimension * a .order) (a .rows) 48 4096 columns (few t))
+
+returns-5 : tie.Need-returns-5
+unfolding lengthsFit
+returns-5 c =
+    let e4 = c .before .before in
+    let e3 = past-four e4 in
+    let e2 = past-three e3 in
+    let e1 = past-two e2 in
+    rw (
+      eq-eqb _ _ (e1 .if1 .left),
+      eq-eqb _ _ (e2 .if2 .left),
+      eq-eqb _ _ (values-fit e3),
+      eq-eqb _ _ (gradients-fit e4),
+      ne-eqb _ _ (c .if5 .taken),
+    )
+
+mul-size-if-3 : tie.Need-mul-size-if-3
+mul-size-if-3 c = search needs
+
+size-if-requires-2 : tie.Need-size-if-requires-2
+size-if-requires-2 c κs = search needs
 
 returns-6 : tie.Need-returns-6
 unfolding lengthsFit
@@ -156,34 +166,9 @@ returns-6 c =
     rw (
       eq-eqb _ _ (e1 .if1 .left),
       eq-eqb _ _ (e2 .if2 .left),
-      eq-eqb _ _ (e3 .if3 .left),
-      eq-eqb _ _ (values-fit e4),
-      eq-eqb _ _ (gradients-fit e5),
-      ne-eqb _ _ (c .if6 .taken),
-    )
-
-mul-size-if-3 : tie.Need-mul-size-if-3
-mul-size-if-3 c = search needs
-
-size-if-requires-2 : tie.Need-size-if-requires-2
-size-if-requires-2 c κs = search needs
-
-returns-7 : tie.Need-returns-7
-unfolding lengthsFit
-returns-7 c =
-    let e6 = c .before .before in
-    let e5 = past-six e6 in
-    let e4 = past-five e5 in
-    let e3 = past-four e4 in
-    let e2 = past-three e3 in
-    let e1 = past-two e2 in
-    rw (
-      eq-eqb _ _ (e1 .if1 .left),
-      eq-eqb _ _ (e2 .if2 .left),
-      eq-eqb _ _ (e3 .if3 .left),
-      eq-eqb _ _ (values-fit e4),
-      eq-eqb _ _ (gradients-fit e5),
-      eq-eqb _ _ (e6 .if6 .left),
+      eq-eqb _ _ (values-fit e3),
+      eq-eqb _ _ (gradients-fit e4),
+      eq-eqb _ _ (e5 .if5 .left),
       c .before .size-if2 .ensures,
     )
 
@@ -195,17 +180,16 @@ lengths-fit-spec =
     mul-columns
     mul-if1
     returns
+    mul-if2
     returns-2
     mul-if3
     returns-3
-    mul-if4
-    returns-4
     mul-size-if
     mul-size-if-2
     size-if-requires
+    returns-4
+    mul-if5
     returns-5
-    mul-if6
-    returns-6
     mul-size-if-3
     size-if-requires-2
-    returns-7)
+    returns-6)

@@ -1,25 +1,37 @@
 -- `coefficients::limits::lowest_number` meets its contract: each return by the tests that led there. Assumes nothing.
 use borrow.Author.Needs.{needs}
-use mathlib.Core.Path.{_≡_, sym, _∙_}
-use mathlib.Core.Bool.{true, false}
+use mathlib.Core.Path.{_≡_, sym, ap, _∙_}
+use mathlib.Core.Bool.{Bool, true, false}
 use Rattle.common.specs.Refusals.{Shape}
 use Rattle.common.proofs.Cases.{of-not}
 use Rattle.common.proofs.Limits.{shape-taken}
-use Rattle.coefficients.specs.Coefficients.{lengthsFit}
-use Rattle.coefficients.proofs.Calls.{number-shape, number-count, number-length, number-rest, admitted}
+use Rattle.coefficients.specs.Coefficients.{withGradients, takesSide, lengthsFit}
+use Rattle.coefficients.proofs.Calls.{number-shape, number-count, number-length, number-side, number-finite, number-none}
 use Rattle.coefficients.proofs.limits.lowest_number.Statement.{statement}
 use Rattle.coefficients.proofs.limits.lowest_number.Tie as tie
 
 -- WHAT HOLDS past each test
 
-shape : (c : tie.Else1) → let a = c .before .before .before .before .args in Shape (a .cell .dimension) (a .cell .order)
-shape c = let a = c .before .before .before .before .args in shape-taken (a .cell .dimension) (a .cell .order)
+shape : (c : tie.Else1) → let a = c .before .before .before .args in Shape (a .dimension) (a .order)
+shape c = let a = c .before .before .before .args in shape-taken (a .dimension) (a .order)
     (sym (c .before .shape-number .ensures) ∙ c .if1 .left)
 
+-- whether the lengths fit, by what is wanted
+fitting : (c : tie.After-lengths-fit) →
+    let a = c .before .before .before .before .before .before .args in
+    c .lengths-fit .result ≡ lengthsFit (a .dimension) (a .order) (a .rows) (withGradients (a .wanted)) (a .lent)
+fitting c =
+    let a = c .before .before .before .before .before .before .args in
+    c .lengths-fit .ensures
+    ∙ ap (λ (w : Bool). lengthsFit (a .dimension) (a .order) (a .rows) w (a .lent)) (c .before .with-gradients .ensures)
+
 fit : (c : tie.Else3) →
-    let a = c .before .before .before .before .before .before .before .args in lengthsFit (a .cell .dimension) (a .cell .order)
-    (a .cell .rows) (a .with-gradients) (a .lent) ≡ true
-fit c = sym (c .before .lengths-fit .ensures) ∙ of-not _ false (c .if3 .left)
+    let a = c .before .before .before .before .before .before .before .args in
+    lengthsFit (a .dimension) (a .order) (a .rows) (withGradients (a .wanted)) (a .lent) ≡ true
+fit c = sym (fitting (c .before)) ∙ of-not _ false (c .if3 .left)
+
+side : (c : tie.Else4) → takesSide (c .before .before .before .before .before .before .before .before .before .args .wanted) ≡ true
+side c = sym (c .before .takes-side .ensures) ∙ of-not _ false (c .if4 .left)
 
 -- THE RETURNS
 
@@ -27,33 +39,50 @@ shape-number-requires : tie.Need-shape-number-requires
 shape-number-requires c κs = search needs
 
 returns : tie.Need-returns
-returns c = let e = c .before .shape-number .ensures in e ∙ number-shape _ _ _ _ _ _ _ (rw e at (c .if1 .taken))
+returns c = let e = c .before .shape-number .ensures in e ∙ number-shape _ _ _ _ _ _ (rw e at (c .if1 .taken))
 
 returns-2 : tie.Need-returns-2
-returns-2 c = number-count _ _ _ _ _ _ _ (shape (c .before)) (c .if2 .taken)
+returns-2 c = number-count _ _ _ _ _ _ (shape (c .before)) (c .if2 .taken)
+
+with-gradients-requires : tie.Need-with-gradients-requires
+with-gradients-requires c κs = search needs
 
 lengths-fit-requires : tie.Need-lengths-fit-requires
-lengths-fit-requires c κs = (shape (c .before), c .if2 .left)
+lengths-fit-requires c κs = let two = c .before in (shape (two .before), two .if2 .left)
 
 returns-3 : tie.Need-returns-3
 returns-3 c =
-    let two = c .before .before in
-    number-length _ _ _ _ _ _ _ (shape (two .before)) (two .if2 .left) (sym (c .before .lengths-fit .ensures)
-    ∙ of-not _ true (c .if3 .taken))
+    let two = c .before .before .before in
+    number-length _ _ _ _ _ _ (shape (two .before)) (two .if2 .left) (sym (fitting (c .before)) ∙ of-not _ true (c .if3 .taken))
 
-points-number-requires : tie.Need-points-number-requires
-points-number-requires c κs =
-    let two = c .before .before in
-    let s = two .before .before .before .before .before in
-    let a = s .args in
-    let is = admitted (a .cell .dimension) (a .cell .order) (a .cell .rows) (a .with-gradients) (a .lent) (shape (two .before))
-    (two .if2 .left) (fit c) in
-    (shape (two .before) .dimension-most, sym (s .pre .1) ∙ is .centre, sym (s .pre .0) ∙ is .points)
+takes-side-requires : tie.Need-takes-side-requires
+takes-side-requires c κs = search needs
 
 returns-4 : tie.Need-returns-4
 returns-4 c =
-    let two = c .before .before .before in
-    c .points-number .ensures ∙ number-rest _ _ _ _ _ _ _ (shape (two .before)) (two .if2 .left) (fit (c .before))
+    let three = c .before .before in
+    let two = three .before .before .before in
+    number-side _ _ _ _ _ _ (shape (two .before)) (two .if2 .left) (fit three)
+    (sym (c .before .takes-side .ensures) ∙ of-not _ true (c .if4 .taken))
+
+all-finite-requires : tie.Need-all-finite-requires
+all-finite-requires c κs = search needs
+
+returns-5 : tie.Need-returns-5
+returns-5 c =
+    let four = c .before .before in
+    let three = four .before .before in
+    let two = three .before .before .before in
+    number-finite _ _ _ _ _ _ (shape (two .before)) (two .if2 .left) (fit three) (side four)
+    (sym (c .before .all-finite .ensures) ∙ of-not _ true (c .if5 .taken))
+
+returns-6 : tie.Need-returns-6
+returns-6 c =
+    let four = c .before .before in
+    let three = four .before .before in
+    let two = three .before .before .before in
+    number-none _ _ _ _ _ _ (shape (two .before)) (two .if2 .left) (fit three) (side four)
+    (sym (c .before .all-finite .ensures) ∙ of-not _ false (c .if5 .left))
 
 pub lowest-number-spec : {M : Type 1} → statement M
 lowest-number-spec =
@@ -62,7 +91,11 @@ lowest-number-spec =
     shape-number-requires
     returns
     returns-2
+    with-gradients-requires
     lengths-fit-requires
     returns-3
-    points-number-requires
-    returns-4)
+    takes-side-requires
+    returns-4
+    all-finite-requires
+    returns-5
+    returns-6)

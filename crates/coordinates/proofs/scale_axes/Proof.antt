@@ -1,4 +1,4 @@
--- `coordinates::scale_points` meets its contract. The loop keeps `Stepping`: the axes before `axis` are scaled. Assumes
+-- `coordinates::scale_axes` meets its contract. The loop keeps `Stepping`: the axes before `axis` are scaled. Assumes
 -- nothing.
 use borrow.Author.Needs.{needs}
 use mathlib.Core.Path.{_∙_}
@@ -10,8 +10,8 @@ use Rattle.common.proofs.Steps.{Stepping, stepping-none, stepping-fits, steppin
 use Rattle.common.proofs.Matrices.{columns-filled}
 use Rattle.coordinates.specs.Coordinates.{coordinate}
 use Rattle.coordinates.proofs.Steps.{axis-more}
-use Rattle.coordinates.proofs.scale_points.Statement.{statement}
-use Rattle.coordinates.proofs.scale_points.Tie as tie
+use Rattle.coordinates.proofs.scale_axes.Statement.{statement}
+use Rattle.coordinates.proofs.scale_axes.Tie as tie
 
 abbrev Inv-loop : tie.InvT-loop
 Inv-loop dimension rows side centre points₀ axis₀ at₀ points axis at = Stepping 0 dimension rows
@@ -79,8 +79,8 @@ returns c =
     (c .before .loop .inv) (c .loop-test .left)
     ∙ columns-filled (a .rows) (coordinate (a .rows) (a .side) (a .centre .now) (a .points .now)) (a .dimension) _ (s .pre .2)
 
-pub scale-points-spec : {M : Type 1} → statement M
-scale-points-spec =
+pub scale-axes-spec : {M : Type 1} → statement M
+scale-axes-spec =
     tie.close
     (tie.spec
     Inv-loop

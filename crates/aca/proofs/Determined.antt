@@ -20,7 +20,7 @@ told-injective (Refused n) (Done x') e = let z : _≡_ {A = Option Report} none 
 told-injective (Done x) (Refused n') e = let z : _≡_ {A = Option Report} (some x) none = ap (λ (x : ℕ × Option Report). x .1) e in cc
 told-injective (Done x) (Done x') e = let z : some x ≡ some x' = ap (λ (x : ℕ × Option Report). x .1) e in cc
 
-aca-partial-pivoting-determined : (rows columns : ℕ) (samples : List Float) (epsilon : Float) (restart : Bool) (lent : Memory)
+pub aca-partial-pivoting-determined : (rows columns : ℕ) (samples : List Float) (epsilon : Float) (restart : Bool) (lent : Memory)
     (r r' : Approximation) (after after' : Memory) →
     call (told r) after ≡ acaCall rows columns samples epsilon restart lent →
     call (told r') after' ≡ acaCall rows columns samples epsilon restart lent →

@@ -5,3 +5,4 @@ pub mod Before
 pub mod Fresh
 pub mod Smallest
 pub mod Determined
+pub mod Unseen

@@ -3,4 +3,5 @@ pub mod Runs
 pub mod Before
 pub mod Pivots
 pub mod Facts
+pub mod Unseen
 pub mod Working

@@ -243,6 +243,7 @@ static Answer *answer_of(const char *file)
         {"e07_scale", answer_e07_scale},
         {"e07_reference", answer_e07_reference},
         {"e08_smallest", answer_e08_smallest},
+        {"e09_outside", answer_e09_outside},
     };
     for (size_t i = 0; i < sizeof all / sizeof all[0]; i++) {
         if (strcmp(all[i].file, file) == 0) {

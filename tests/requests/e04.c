@@ -102,24 +102,42 @@ static void hold_done(size_t m, size_t n)
     hold_lines(m, n, rank);
 }
 
-const double *answer_cross(void)
+/* The call on a block of the case, with buffers of these lengths. */
+static uint8_t call_on(const char *block, const size_t *lengths)
 {
     size_t m = number("m");
     size_t n = number("n");
     fill();
-    size_t entries = reals("block", samples, MOST);
+    size_t entries = reals(block, samples, MOST);
     memcpy(before, samples, sizeof before);
     /* A case that is refused for its count does not ask how long the working lines are. */
     uint8_t found = bbfmm_aca_partial_pivoting(
-        m, n, samples, entries, real("epsilon"), number("restart") == 1, u, number_at("lengths", 0), v, number_at("lengths", 1),
-        row_list, number_at("lengths", 2), column_list, number_at("lengths", 3), row, lesser(n, LINE), column, lesser(m, LINE), counts,
-        3, numbers, 2);
-    hold_number("refusal", found);
+        m, n, samples, entries, real("epsilon"), number("restart") == 1, u, lengths[0], v, lengths[1], row_list, lengths[2], column_list,
+        lengths[3], row, lesser(n, LINE), column, lesser(m, LINE), counts, 3, numbers, 2);
     hold(memcmp(samples, before, sizeof before) == 0, "samples");
+    return found;
+}
+
+const double *answer_cross(void)
+{
+    const size_t lengths[4] = {number_at("lengths", 0), number_at("lengths", 1), number_at("lengths", 2), number_at("lengths", 3)};
+    uint8_t found = call_on("block", lengths);
+    hold_number("refusal", found);
     if (found != BBFMM_DONE) {
         hold_refused();
         return 0;
     }
+    hold_done(number("m"), number("n"));
+    return numbers;
+}
+
+const double *answer_block(const char *block)
+{
+    size_t m = number("m");
+    size_t n = number("n");
+    size_t most = lesser(m, n);
+    const size_t lengths[4] = {m * most, n * most, number("restart") == 1 ? m : most, most};
+    hold(call_on(block, lengths) == BBFMM_DONE, "the number told");
     hold_done(m, n);
     return numbers;
 }

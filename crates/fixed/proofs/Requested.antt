@@ -25,6 +25,7 @@ use Rattle.aca_steps.specs.Crosses.{judged, accepted, tried, step}
 use Rattle.aca_steps.specs.Memories.{laid}
 use Rattle.aca.specs.Runs.{followed, run, report, fits, acaNumber, approximation, acaCall}
 use Rattle.fixed.specs.Requests.{Requested}
+use Rattle.fixed.proofs.Sharp.{rows-not-enough, columns-not-enough}
 
 pub requested : Requested
 unfolding size isCell each allFinite coordinateIn inCell allInCell pointsNumber floorRoot nearestRoot root added digit references entry
@@ -76,4 +77,6 @@ requested =
       entry-missing = λ x. refl;
       blank-past = λ x. refl;
       minus-zero-unwritten = λ b. refl;
+      rows-not-enough = rows-not-enough;
+      columns-not-enough = columns-not-enough;
     }

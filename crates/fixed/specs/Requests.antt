@@ -1,10 +1,11 @@
 -- Results that the requests fix, as one table: each row is a line of a request, said of the definition that a call's contract cites.
-use Prim.Native.Nat.{ℕ}
+use Prim.Native.Nat.{ℕ, _<_}
 use mathlib.Core.Path.{_≡_}
 use mathlib.Core.Option.{Option, some, none}
-use mathlib.Core.Bool.{true, false}
+use mathlib.Core.Bool.{Bool, true, false}
 use mathlib.Core.List.{List, [], _∷_, _++_}
 use lib.Ieee.{Float, nan, inf, neg, ofBits, binary64}
+use lib.ListN.{length, getD}
 use Rattle.common.specs.Floats.{float, zero₆₄, one₆₄, two₆₄, half₆₄}
 use Rattle.coordinates.specs.Coordinates.{pointsNumber}
 use Rattle.roots.specs.Values.{root}
@@ -16,7 +17,8 @@ use Rattle.exchange_format.specs.Words.{banner, kind, Size}
 use Rattle.exchange_format.specs.Calls.{sizeCall, readCall, writeCall}
 use Rattle.aca_steps.specs.Crosses.{tiny₆₄}
 use Rattle.aca_steps.specs.Memories.{Memory, memory}
-use Rattle.aca.specs.Runs.{call, acaCall}
+use Rattle.aca.specs.Runs.{approximation, call, acaCall}
+use Rattle.aca.specs.Unseen.{SameRow, SameColumn}
 use Rattle.fixed.specs.Results.{two, four, lent}
 
 -- 1 + 2 ^ -20, and the next float
@@ -61,6 +63,21 @@ one-by-one = some (record { rows = 1; columns = 1 })
 -- the memory that is lent for a block of one entry
 abbrev pub one : (x : Float) (i : ℕ) → Memory
 one x i = memory (x ∷ []) (x ∷ []) (i ∷ []) (i ∷ []) (x ∷ []) (x ∷ [])
+
+-- What E9's theorem would be with half of what it asks: that blocks which agree on the rows that the first one's run lists give one run,
+-- or that blocks which agree on its columns do.
+module _ (restart : Bool) where
+  abbrev pub RowsAlone : Type 0
+  RowsAlone =
+      (m n : ℕ) (a b : List Float) (epsilon : Float) (t : Memory) →
+      (let l = approximation m n a epsilon restart t .found .rows in (k : ℕ) → k < length l → SameRow m n a b (getD l k 0)) →
+      approximation m n a epsilon restart t ≡ approximation m n b epsilon restart t
+
+  abbrev pub ColumnsAlone : Type 0
+  ColumnsAlone =
+      (m n : ℕ) (a b : List Float) (epsilon : Float) (t : Memory) →
+      (let l = approximation m n a epsilon restart t .found .columns in (k : ℕ) → k < length l → SameColumn m n a b (getD l k 0)) →
+      approximation m n a epsilon restart t ≡ approximation m n b epsilon restart t
 
 pub record Requested : Type 0 where
   -- E1: in a cell of side 2 about 0, a point at 1 + 2 ^ -20 passes, on either side; at the next float it is refused with 11
@@ -160,3 +177,7 @@ pub record Requested : Type 0 where
   pub blank-past : (x : Float) → readCall (single (53 ∷ 10 ∷ 10 ∷ [])) (x ∷ []) ≡ ((16, 4, none), x ∷ [])
   -- in writing -0.0 is refused with 15, at the line that it would have
   pub minus-zero-unwritten : (b : ℕ) → writeCall 1 1 (neg zero₆₄ ∷ []) (b ∷ []) ≡ ((15, 3, none), b ∷ [])
+  -- E9: neither half is enough, in either mode. At epsilon 1, of rows (1,0),(0,0) row 0 and column 0 are listed, and the estimate is 1;
+  -- of rows (1,0),(1,0), the same in row 0, it is 2; and of rows (1,1),(0,0), the same in column 0, too.
+  pub rows-not-enough : (restart : Bool) → RowsAlone restart → ⊥
+  pub columns-not-enough : (restart : Bool) → ColumnsAlone restart → ⊥

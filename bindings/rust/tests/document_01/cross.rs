@@ -2,6 +2,7 @@
 
 mod held;
 mod refusals;
+mod unread;
 
 use bbfmm::{Mode, Stop};
 

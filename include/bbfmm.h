@@ -4,7 +4,7 @@
  * approximation.
  *
  * `rt staticlib bbfmm` proves the calls and writes target/staticlib/libbbfmm.a, for x86-64. The archive takes memcpy and memset
- * from the C library and nothing else. It allocates nothing and keeps nothing between calls.
+ * from the C library and nothing else. It allocates nothing and keeps nothing between calls. No call takes more than 2 KiB of stack.
  *
  * NUMBERS. Every call answers BBFMM_DONE or the number of a refusal; bbfmm_square_root alone refuses nothing and answers a float.
  * After a refusal every lent buffer is as it came. With several faults the lowest number is given; the calls on texts have an order of

@@ -244,6 +244,7 @@ static Answer *answer_of(const char *file)
         {"e07_reference", answer_e07_reference},
         {"e08_smallest", answer_e08_smallest},
         {"e09_outside", answer_e09_outside},
+        {"e10_words", answer_e10_words},
     };
     for (size_t i = 0; i < sizeof all / sizeof all[0]; i++) {
         if (strcmp(all[i].file, file) == 0) {

@@ -55,8 +55,9 @@ Answer answer_e07_scale;
 Answer answer_e07_reference;
 Answer answer_e08_smallest;
 Answer answer_e09_outside;
+Answer answer_e10_words;
 
-/* The call of a case of E4 or E8: the floats of its report, or null where it is refused. */
+/* The call of a case of E4, E8 or E10: the floats of its report, or null where it is refused. */
 const double *answer_cross(void);
 /* The call on a block of a case of E9, which is never refused: the floats of its report. */
 const double *answer_block(const char *block);

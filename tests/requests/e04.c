@@ -1,4 +1,4 @@
-/* E4: cross approximation, in the old mode and in restart mode. The cases of E8 list the same, and the smallest pivot. */
+/* E4: cross approximation, in the old mode and in restart mode. The cases of E8 and E10 list the same, and the smallest pivot. */
 #include "cases.h"
 
 void *memset(void *place, int byte, size_t bytes);
@@ -6,7 +6,7 @@ void *memcpy(void *to, const void *from, size_t bytes);
 int memcmp(const void *left, const void *right, size_t bytes);
 
 /* Room for the largest block of a case that is done, and a few entries past it. */
-enum { ROOM = 128, LINE = 1024, PAST = 8, PATTERN = 0xa5 };
+enum { ROOM = 256, LINE = 1024, PAST = 8, PATTERN = 0xa5 };
 
 static double samples[MOST], before[MOST];
 static double u[ROOM + PAST], v[ROOM + PAST], row[LINE + PAST], column[LINE + PAST];

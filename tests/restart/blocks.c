@@ -1,5 +1,6 @@
 /* Holds bbfmm_aca_partial_pivoting in both modes to its rule: every small block of -1, 0 and 1, every block of two rows and two columns
-   of special values, drawn blocks of many kinds, and a few large ones. Prints a line, and ends with 1 where something differs. */
+   of special values, drawn blocks of many kinds, a few large ones, and blocks with pivots where words of flags end. Prints a line, and
+   ends with 1 where something differs. */
 #include "../distances/draw.h"
 #include "hold.h"
 
@@ -272,12 +273,62 @@ static void try_late(size_t m, size_t n)
     try_block(m, n, 1e-9);
 }
 
+/* ENDS OF WORDS: flags are kept 64 a word. One pivot leads to the next from end to end: row r has its largest entry in column c, and of
+   column c the largest entry that is left lies in the row that comes next. */
+
+enum { ENDS = 6 };
+static const size_t PLACES[ENDS] = {0, 63, 64, 127, 1022, 1023};
+
+static size_t within(size_t place, size_t count)
+{
+    return place < count ? place : count - 1;
+}
+
+static void try_ends(size_t m, size_t n, size_t turned)
+{
+    rows = m;
+    columns = n;
+    for (size_t i = 0; i < m * n; i++) {
+        block[i] = 0;
+    }
+    for (size_t k = 0; k < ENDS; k++) {
+        size_t column = within(PLACES[(k + turned) % ENDS], n);
+        block[within(PLACES[k], m) + column * m] = 8;
+        if (k + 1 < ENDS) {
+            block[within(PLACES[k + 1], m) + column * m] = 4;
+        }
+    }
+    try_block(m, n, 0);
+}
+
+static size_t try_all_ends(void)
+{
+    static const size_t LINES[8] = {1, 63, 64, 65, 127, 128, 1023, 1024};
+    for (size_t i = 0; i < 8; i++) {
+        for (size_t j = 0; j < 8; j++) {
+            for (size_t turned = 0; turned < ENDS; turned++) {
+                try_ends(LINES[i], LINES[j], turned);
+            }
+        }
+    }
+    return 8 * 8 * ENDS;
+}
+
+static bool are_ends_met(void)
+{
+    bool are_met = true;
+    for (size_t k = 0; k < ENDS; k++) {
+        are_met = are_met && tally.rows[PLACES[k]] > 0 && tally.columns[PLACES[k]] > 0;
+    }
+    return are_met;
+}
+
 /* Everything that is counted must have come, or the blocks were not the right ones. */
 static bool is_all_met(void)
 {
     size_t(*s)[5] = tally.stops;
     bool are_stops_met = s[0][1] > 0 && s[0][2] > 0 && s[0][3] > 0 && s[1][1] > 0 && s[1][3] > 0 && s[1][4] > 0;
-    return are_stops_met && tally.without_pivot > 0 && tally.alike > 0;
+    return are_stops_met && are_ends_met() && tally.without_pivot > 0 && tally.alike > 0;
 }
 
 int main(void)
@@ -293,9 +344,11 @@ int main(void)
     try_late(LINE, 3);
     try_late(3, LINE);
     try_late(LINE, LINE);
+    size_t ends = try_all_ends();
     size_t(*s)[5] = tally.stops;
-    printf("tests/restart: %zu blocks of -1, 0 and 1, %zu of special values, %d drawn, 3 large; %zu runs; ", whole, special,
-        SMALL_BLOCKS + LARGER_BLOCKS, tally.runs);
+    printf("tests/restart: %zu blocks of -1, 0 and 1, %zu of special values, %d drawn, 3 large, %zu with pivots at the ends of words; ",
+        whole, special, SMALL_BLOCKS + LARGER_BLOCKS, ends);
+    printf("%zu runs; ", tally.runs);
     printf("old mode, stops 1: %zu, 2: %zu, 3: %zu; ", s[0][1], s[0][2], s[0][3]);
     printf("restart mode, stops 1: %zu, 3: %zu, 4: %zu, %zu rows without a pivot, %zu runs as in the old mode; ", s[1][1], s[1][3],
         s[1][4], tally.without_pivot, tally.alike);

@@ -174,6 +174,12 @@ static void hold_facts(const Question *q)
         fault(q, "a smallest pivot that no run has; the rank", rank);
     }
     tally.stops[q->restart][stop]++;
+    for (size_t i = 0; i < read; i++) {
+        tally.rows[own.row_list[i]]++;
+    }
+    for (size_t i = 0; i < rank; i++) {
+        tally.columns[own.column_list[i]]++;
+    }
 }
 
 /* BOTH MODES: where the old one meets no NaN, reads no row and no column twice and is not spent, restart mode does the same. */

@@ -11,12 +11,13 @@ enum { LINE = 1024, PAST = 8 };
 extern double block[LINE * LINE];
 
 /* What was met: runs, how often each stop came in each mode, rows read without a pivot in restart mode, blocks that both modes must
-   treat alike, and faults. */
+   treat alike, how often a row and a column was listed, and faults. */
 typedef struct {
     size_t runs;
     size_t stops[2][5];
     size_t without_pivot;
     size_t alike;
+    size_t rows[LINE], columns[LINE];
     size_t faults;
 } Tally;
 extern Tally tally;

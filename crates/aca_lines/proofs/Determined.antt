@@ -7,7 +7,7 @@ use lib.Ieee.{Float}
 use lib.ListN.{length}
 use Rattle.common.specs.Tests.{lowest}
 use Rattle.common.proofs.Determined.{coincide}
-use Rattle.aca_lines.specs.Largest.{counts, pivot}
+use Rattle.aca_lines.specs.Largest.{argmax, counts, pivot}
 use Rattle.aca_lines.specs.Flags.{isOn, allOn, cleared}
 use Rattle.aca_lines.specs.declared.Pivot.{Pivot}
 use Rattle.aca_lines.specs.Lines.{rowLess, columnLess, multiplied, asColumn, norm, cross}
@@ -30,6 +30,10 @@ module _ (flags : List ℕ) (k : ℕ) where
 
 lowest-on-determined : (flags : List ℕ) (most r r' : ℕ) → r ≡ lowest most (isOn flags) → r' ≡ lowest most (isOn flags) → r ≡ r'
 lowest-on-determined flags most r r' = coincide r r' (lowest most (isOn flags))
+
+place-on-determined : (entries : List Float) (flags : List ℕ) (r r' : ℕ) → r ≡ argmax entries (isOn flags) →
+    r' ≡ argmax entries (isOn flags) → r ≡ r'
+place-on-determined entries flags r r' = coincide r r' (argmax entries (isOn flags))
 
 pick-on-determined : (entries : List Float) (flags : List ℕ) (r r' : Pivot) → r ≡ pivot entries (isOn flags) →
     r' ≡ pivot entries (isOn flags) → r ≡ r'

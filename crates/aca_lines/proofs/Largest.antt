@@ -10,7 +10,7 @@ use lib.Ieee.{Float, nan, lt, ofBits, ofFields, odd}
 use lib.ListN.{length, getD, List·getD-eq-default}
 use Rattle.common.specs.Floats.{zero₆₄, size}
 use Rattle.common.proofs.Cases.{by-bool}
-use Rattle.aca_lines.specs.Largest.{best, argmax, pivot}
+use Rattle.aca_lines.specs.Largest.{best, argmax, pivotAt, pivot}
 use Rattle.aca_lines.specs.declared.Pivot.{Pivot}
 use Rattle.aca_lines.specs.declared.search.Best.{Best}
 
@@ -43,19 +43,21 @@ nothing-there : size zero₆₄ ≡ zero₆₄
 unfolding size lt ofBits ofFields odd
 nothing-there = refl
 
+pub at-entry : (l : List Float) (k : ℕ) {s : Float} → k < length l → s ≡ size (getD l k nan) →
+    _≡_ {A = Pivot} (record { place = k; size = s }) (pivotAt l k)
+at-entry l k i e = rw (e, any-default l k nan zero₆₄ i)
+
+pub past-entries : (l : List Float) (k : ℕ) → length l ≤ k → _≡_ {A = Pivot} (record { place = k; size = zero₆₄ }) (pivotAt l k)
+past-entries l k i = rw (List·getD-eq-default l zero₆₄ i, nothing-there)
+
 module _ (l : List Float) (on : ℕ → Bool) (h : Best) (b : h ≡ best (length l) l on) where
-  place-found : h .place ≡ argmax l on
+  pub place-found : h .place ≡ argmax l on
   unfolding argmax
   place-found = ap (λ (x : Best). x .place) b
 
-  pub pivot-found : {s : Float} → h .place < length l → s ≡ size (getD l (h .place) nan) →
-      _≡_ {A = Pivot} (record { place = h .place; size = s }) (pivot l on)
+  pub pivot-found : pivotAt l (h .place) ≡ pivot l on
   unfolding pivot
-  pivot-found i e = rw (← place-found, e, any-default l (h .place) nan zero₆₄ i)
-
-  pub pivot-missing : length l ≤ h .place → _≡_ {A = Pivot} (record { place = h .place; size = zero₆₄ }) (pivot l on)
-  unfolding pivot
-  pivot-missing i = rw (← place-found, List·getD-eq-default l zero₆₄ i, nothing-there)
+  pivot-found = rw (← place-found)
 
 -- WHERE IT IS: a place in the list, where that has any
 

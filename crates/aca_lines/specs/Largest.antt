@@ -18,10 +18,14 @@ best (suc n) l on =
 unfoldable pub argmax : (entries : List Float) → (on : ℕ → Bool) → ℕ
 argmax l on = best (length l) l on .place
 
+-- a place, and the size of the entry there; where there is none, +0.0
+abbrev pub pivotAt : (entries : List Float) → (k : ℕ) → Pivot
+pivotAt l k = record { place = k; size = size (getD l k zero₆₄) }
+
 -- THE PIVOT: the place of the largest entry, and the size of the entry there. Where no entry counts that is entry 0, which may be
--- a NaN or one that is off; in a line without entries it is +0.0.
+-- a NaN or one that is off.
 unfoldable pub pivot : (entries : List Float) → (on : ℕ → Bool) → Pivot
-pivot l on = record { place = argmax l on; size = size (getD l (argmax l on) zero₆₄) }
+pivot l on = pivotAt l (argmax l on)
 
 -- entry k counts where byte k of a mask is 1
 unfoldable pub counts : (mask : List ℕ) → (k : ℕ) → Bool

@@ -14,6 +14,7 @@ pub use flags::clear;
 pub use flags::is_on;
 pub use flags::lowest_on;
 pub use flags::pick_on;
+pub use flags::place_on;
 pub use search::pick;
 pub use terms::cross;
 pub use terms::multiply;

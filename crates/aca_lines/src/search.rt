@@ -2,13 +2,26 @@
 ghost use mathlib.Core.Path.{_≡_};
 ghost use Prim.Native.Nat.{_+_, _<_, _≤_};
 ghost use lib.ListN.{length};
-ghost use Rattle.aca_lines.specs.Largest.{best, counts, pivot};
+ghost use Rattle.aca_lines.specs.Largest.{best, counts, pivotAt, pivot};
 use crate::Pivot;
 
 // The largest of the entries before some place, and its size.
-struct Best {
-    place: usize,
-    worth: f64,
+pub(crate) struct Best {
+    pub place: usize,
+    pub worth: f64,
+}
+
+// The pivot that is found at a place; there is no entry there where the line has none.
+pub(crate) fn pivot_at(entries: &[f64], place: usize) -> Pivot
+    ensures { λ r. ⌜ r ≡ pivotAt (now (entries .entry)) place ⌝ }
+{
+    if place < entries.len() {
+        return Pivot {
+            place,
+            size: common::size_of(entries[place]),
+        };
+    }
+    Pivot { place, size: 0.0 }
 }
 
 // The best of the first k + 1 entries, given that of the first k. Few entries are larger than all before them, so that is asked
@@ -48,12 +61,5 @@ pub fn pick(entries: &[f64], mask: &[u8]) -> Pivot
     if k < n {
         largest = better(entries, mask, k, largest);
     }
-    let place = largest.place;
-    if place < n {
-        return Pivot {
-            place,
-            size: common::size_of(entries[place]),
-        };
-    }
-    Pivot { place, size: 0.0 }
+    pivot_at(entries, largest.place)
 }

@@ -27,6 +27,7 @@ use aca_lines::lowest_on;
 use aca_lines::multiply;
 use aca_lines::norm;
 use aca_lines::pick_on;
+use aca_lines::place_on;
 use aca_lines::read_column;
 use aca_lines::read_row;
 use aca_lines::store;
@@ -138,7 +139,7 @@ fn take_column(
     multiply(1.0 / row[j], row);
     read_column(samples, columns, j, k, u, v, column);
     mark(j, k, column_flags, column_list);
-    pick_on(column, row_flags).place
+    place_on(column, row_flags)
 }
 
 fn grow(s: Progress, norm: f64, cross: f64, next: usize) -> Progress

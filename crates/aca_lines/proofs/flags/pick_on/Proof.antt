@@ -1,15 +1,20 @@
--- `aca_lines::flags::pick_on` meets its contract: the flags are bytes, and the search takes them for a mask. Assumes nothing.
+-- `aca_lines::flags::pick_on` meets its contract. Assumes nothing.
+use mathlib.Core.Path.{ap, _∙_}
+use Prim.Native.Nat.{ℕ}
 use borrow.Author.Needs.{needs}
-use Rattle.aca_lines.specs.Flags.{isOn}
+use Rattle.aca_lines.specs.Largest.{pivotAt, pivot}
 use Rattle.aca_lines.proofs.flags.pick_on.Statement.{statement}
 use Rattle.aca_lines.proofs.flags.pick_on.Tie as tie
 
-pick-requires : tie.Need-pick-requires
-pick-requires c κs = search needs
+place-on-requires : tie.Need-place-on-requires
+place-on-requires c κs = search needs
+
+pivot-at-requires : tie.Need-pivot-at-requires
+pivot-at-requires c κs = search needs
 
 returns : tie.Need-returns
-unfolding isOn
-returns c = c .pick .ensures
+unfolding pivot
+returns c = rw (c .pivot-at .ensures, c .before .place-on .ensures)
 
 pub pick-on-spec : {M : Type 1} → statement M
-pick-on-spec = tie.close (tie.spec pick-requires returns)
+pick-on-spec = tie.close (tie.spec place-on-requires pivot-at-requires returns)

@@ -8,7 +8,7 @@ use native.Mathlib.Omega.{arith}
 use lib.Ieee.{Float}
 use lib.ListN.{length}
 use Rattle.aca_lines.specs.Largest.{best, counts}
-use Rattle.aca_lines.proofs.Largest.{pivot-found, pivot-missing}
+use Rattle.aca_lines.proofs.Largest.{pivot-found}
 use borrow.Author.Needs.{needs}
 use Rattle.aca_lines.proofs.search.pick.Statement.{statement}
 use Rattle.aca_lines.proofs.search.pick.Tie as tie
@@ -50,14 +50,8 @@ loop-again c =
 better-requires-3 : tie.Need-better-requires-3 Inv-loop μ-loop
 better-requires-3 c κs = search needs
 
-mul-size-of : tie.Need-mul-size-of Inv-loop μ-loop
-mul-size-of c = search needs
-
-shared-slice-read-size-of : tie.Need-shared-slice-read-size-of Inv-loop μ-loop
-shared-slice-read-size-of c = search needs
-
-size-of-requires : tie.Need-size-of-requires Inv-loop μ-loop
-size-of-requires c κs = search needs
+pivot-at-requires : tie.Need-pivot-at-requires Inv-loop μ-loop
+pivot-at-requires c κs = search needs
 
 -- every entry is passed
 module _ (c : tie.Joined1 Inv-loop μ-loop) where
@@ -75,14 +69,7 @@ module _ (c : tie.Joined1 Inv-loop μ-loop) where
       (c .if1 .came)
 
 returns : tie.Need-returns Inv-loop μ-loop
-returns c =
-    let j = c .before .before .before in
-    pivot-found (entries j) (on j) (j .if1 .largest) (all j) (c .before .before .if2 .taken) (c .size-of .ensures)
-
-returns-2 : tie.Need-returns-2 Inv-loop μ-loop
-returns-2 c =
-    let j = c .before in
-    pivot-missing (entries j) (on j) (j .if1 .largest) (all j) (c .if2 .left)
+returns c = let j = c .before in c .pivot-at .ensures ∙ pivot-found (entries j) (on j) (j .if1 .largest) (all j)
 
 pub pick-spec : {M : Type 1} → statement M
 pick-spec =
@@ -99,8 +86,5 @@ pick-spec =
     loop-less
     loop-again
     better-requires-3
-    mul-size-of
-    shared-slice-read-size-of
-    size-of-requires
-    returns
-    returns-2)
+    pivot-at-requires
+    returns)

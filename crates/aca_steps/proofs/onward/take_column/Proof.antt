@@ -1,13 +1,10 @@
 -- `aca_steps::onward::take_column` meets its contract. Assumes nothing.
 use borrow.Author.Needs.{needs}
-use mathlib.Core.Path.{ap}
-use Rattle.aca_lines.specs.Largest.{pivot}
-use Rattle.aca_lines.specs.declared.Pivot.{Pivot}
 use Rattle.aca_steps.proofs.onward.take_column.Statement.{statement}
 use Rattle.aca_steps.proofs.onward.take_column.Tie as tie
 
 -- THE PLACES, each from the one after it
-abbrev marked : tie.After-pick-on → tie.After-mark
+abbrev marked : tie.After-place-on → tie.After-mark
 marked c = c .before .before .before .before
 
 abbrev column-read : tie.After-mark → tie.After-read-column
@@ -31,8 +28,8 @@ read-column-requires c κs = search needs
 mark-requires : tie.Need-mark-requires
 mark-requires c κs = search needs
 
-pick-on-requires : tie.Need-pick-on-requires
-pick-on-requires c κs = search needs
+place-on-requires : tie.Need-place-on-requires
+place-on-requires c κs = search needs
 
 same-length : tie.Need-same-length
 same-length c = search needs
@@ -44,11 +41,10 @@ same-length-3 : tie.Need-same-length-3
 same-length-3 c = search needs
 
 returns : tie.Need-returns
-unfolding pivot
 returns c =
     let m = marked c in
     let r = column-read m in (
-      ap (λ (p : Pivot). p .place) (c .pick-on .ensures),
+      c .place-on .ensures,
       record {
         row-is = multiplied r .multiply .ensures;
         column-is = r .read-column .ensures;
@@ -66,7 +62,7 @@ take-column-spec =
     multiply-requires
     read-column-requires
     mark-requires
-    pick-on-requires
+    place-on-requires
     same-length
     same-length-2
     same-length-3

@@ -185,8 +185,9 @@ const NODES_16: [f64; 16] = [
     0.9951847266721969,
 ];
 
-fn fill_nodes(order: usize, nodes: &mut [f64])
-    requires { ⌜ (1 ≤ order) × (order ≤ 16) × (length (now nodes) ≡ order) ⌝ }
+// Two functions fill the rows, eight each: the check of one with sixteen takes twice the memory.
+fn fill_lower_order(order: usize, nodes: &mut [f64])
+    requires { ⌜ (1 ≤ order) × (order ≤ 8) × (length (now nodes) ≡ order) ⌝ }
     ensures { λ _. ⌜ now (nodes .exit) ≡ tabulate order (node order) ⌝ }
 {
     match order {
@@ -197,7 +198,15 @@ fn fill_nodes(order: usize, nodes: &mut [f64])
         5 => common::copy_column(5, &NODES_5, 0, nodes),
         6 => common::copy_column(6, &NODES_6, 0, nodes),
         7 => common::copy_column(7, &NODES_7, 0, nodes),
-        8 => common::copy_column(8, &NODES_8, 0, nodes),
+        _ => common::copy_column(8, &NODES_8, 0, nodes),
+    }
+}
+
+fn fill_higher_order(order: usize, nodes: &mut [f64])
+    requires { ⌜ (9 ≤ order) × (order ≤ 16) × (length (now nodes) ≡ order) ⌝ }
+    ensures { λ _. ⌜ now (nodes .exit) ≡ tabulate order (node order) ⌝ }
+{
+    match order {
         9 => common::copy_column(9, &NODES_9, 0, nodes),
         10 => common::copy_column(10, &NODES_10, 0, nodes),
         11 => common::copy_column(11, &NODES_11, 0, nodes),
@@ -206,6 +215,17 @@ fn fill_nodes(order: usize, nodes: &mut [f64])
         14 => common::copy_column(14, &NODES_14, 0, nodes),
         15 => common::copy_column(15, &NODES_15, 0, nodes),
         _ => common::copy_column(16, &NODES_16, 0, nodes),
+    }
+}
+
+fn fill_nodes(order: usize, nodes: &mut [f64])
+    requires { ⌜ (1 ≤ order) × (order ≤ 16) × (length (now nodes) ≡ order) ⌝ }
+    ensures { λ _. ⌜ now (nodes .exit) ≡ tabulate order (node order) ⌝ }
+{
+    if order < 9 {
+        fill_lower_order(order, nodes)
+    } else {
+        fill_higher_order(order, nodes)
     }
 }
 

@@ -1,4 +1,4 @@
--- The rule of the nodes at every entry of the table, by one test that antt computes, over any set of nodes. Assumes nothing.
+-- The rule of the nodes at every node of both sets, by one test that antt computes, over any set of nodes. Assumes nothing.
 use mathlib.Core.Path.{_≡_, refl, sym, _∙_}
 use mathlib.Core.Bool.{Bool, true, false, cond, _&&_, and-eq-true-iff}
 use mathlib.Core.List.{List}
@@ -8,7 +8,7 @@ use native.Mathlib.Omega.{arith}
 use lib.Dec.{T, ltb}
 use lib.IntN.{pos, _+ℤ_, _-ℤ_, _*ℤ_}
 use lib.Signed.{ltZ, ltZ-yes}
-use lib.Ieee.{Float, nan, ofBits}
+use lib.Ieee.{Float, nan, neg, ofBits}
 use lib.ListN.{length, getD}
 use borrow.Author.Tests.{lt-ltb}
 use Rattle.common.specs.Lists.{tabulate, stretch}
@@ -16,6 +16,7 @@ use Rattle.common.specs.Tests.{each}
 use Rattle.common.proofs.Fill.{getD-tabulate, tabulate-cong, fill-all}
 use Rattle.common.proofs.Tests.{each-at}
 use Rattle.nodes.specs.Nodes.{entry, node}
+use Rattle.nodes.specs.Sets.{mirrored, nodeOf}
 use Rattle.nodes.specs.Rule.{one, gap, margin, enlarged, whole, chebyshev, opposite, place, Node}
 
 -- 1/64 and 2 ^ -48
@@ -65,13 +66,13 @@ module _ (x : ℕ → ℕ → Float) where
         crosses = passed _ (two .1);
       }
 
--- THE RULE of the Rust's nodes
-all-right : allRight node ≡ true
-unfolding allRight each right exactly rising crossing whole place enlarged chebyshev entry ofBits
+-- THE RULE of both sets
+all-right : each 2 (λ set. allRight (nodeOf set)) ≡ true
+unfolding allRight each right exactly rising crossing whole place enlarged chebyshev entry mirrored neg ofBits
 all-right = refl
 
-pub nodes-right : (p i : ℕ) → 1 ≤ p → p ≤ 16 → i < p → Node node p i
-nodes-right = rule-of node all-right
+pub nodes-right : (set p i : ℕ) → set < 2 → 1 ≤ p → p ≤ 16 → i < p → Node (nodeOf set) p i
+nodes-right set p i known = rule-of (nodeOf set) (each-at 2 (λ k. allRight (nodeOf k)) all-right set known) p i
 
 -- A ROW of the constant table: a call has copied it, and it holds the nodes of its order
 pub row-right : (p k : ℕ) (nodes after : List Float) → p ≡ k → length nodes ≡ p →

@@ -13,7 +13,8 @@ last : (c : tie.At-match-rest) → c .before .before .args .order ≡ 8
 last c =
     let s = c .before .before in
     let r = c .match .rest in
-    let five : 5 ≤ s .args .order = omega (arith, s .pre .0, r .0 .0 .0 .0 .0 .0 .1, r .0 .0 .0 .0 .0 .1, r .0 .0 .0 .0 .1, r .0 .0 .0 .1) in
+    let five : 5 ≤ s .args .order =
+    omega (arith, s .pre .0, r .0 .0 .0 .0 .0 .0 .1, r .0 .0 .0 .0 .0 .1, r .0 .0 .0 .0 .1, r .0 .0 .0 .1) in
     omega (arith, five, s .pre .1, r .0 .0 .1, r .0 .1, r .1)
 
 -- each row by the one law: the order is its length, and the call has copied it

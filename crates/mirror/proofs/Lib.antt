@@ -1,0 +1,4 @@
+pub mod Opposites
+pub mod Reach
+pub mod FloatRight
+pub mod Rusts

@@ -1,0 +1,1 @@
+// Demand 3 for floats, of the mirror-exact nodes: the statement and its proof, and no code.

@@ -2,10 +2,10 @@
 -- one magnitude. Assumes nothing.
 use mathlib.Core.Path.{_≡_, refl, sym, _∙_}
 use mathlib.Core.Bool.{true, false}
-use Prim.Native.Nat.{ℕ, zero, suc}
+use Prim.Native.Nat.{zero, suc}
 use lib.IntN.{ℤ, pos, negsuc, negℤ}
 use lib.Ieee.{Float, Format, neg, add, sub, mul, ofInt}
-use Rattle.floats.specs.Signs.{magnitude, Alike, same, Opposite}
+use Rattle.floats.specs.Signs.{magnitude, same, Opposite}
 use Rattle.floats.proofs.Alike.{alike-of, alike-trans, alike-neg, alike-magnitude, neg-magnitude, neg-neg}
 use Rattle.floats.proofs.Products.{mul-neg, mul-alike}
 use Rattle.floats.proofs.Rounding.{round-neg, zero-either}

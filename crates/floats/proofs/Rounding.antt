@@ -5,9 +5,9 @@ use mathlib.Core.Bool.{Bool, true, false, not, cond}
 use Prim.Native.Nat.{ℕ, zero, suc, _+_, _-_, _*_, _/_, _%_, _^_, compare, compare·zero-suc}
 use native.Mathlib.Nat.{zero-mul, zero-div, zero-mod}
 use lib.Dec.{ltb}
-use lib.IntN.{ℤ, pos}
+use lib.IntN.{pos}
 use lib.Pow.{pow-pos}
-use lib.Ieee.{Float, nan, inf, fin, Format, prec, emax, low, size, nearest, odd, units, round, neg}
+use lib.Ieee.{Float, inf, fin, Format, prec, emax, low, size, nearest, odd, units, round, neg}
 use lib.Ieee.Fits.{round-is}
 use borrow.Author.Tests.{lt-ltb}
 use Rattle.floats.specs.Signs.{Alike, zeros}

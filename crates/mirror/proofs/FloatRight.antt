@@ -1,13 +1,13 @@
 -- Demand 3 for floats, of the mirror-exact nodes: for every dimension, order, far vector and cell's side. Assumes nothing.
 use mathlib.Core.Path.{_≡_, refl, sym}
 use mathlib.Core.Bool.{true}
-use Prim.Native.Nat.{ℕ, _-_, _^_, _<_, _≤_}
+use Prim.Native.Nat.{ℕ, _^_, _<_, _≤_}
 use lib.IntN.{ℤ, pos}
 use lib.Ieee.{Float}
 use Rattle.common.specs.Digits.{digit}
 use Rattle.common.specs.Refusals.{isCell}
 use Rattle.common.proofs.Digits.{digit-below}
-use Rattle.floats.specs.Signs.{magnitude, Opposite}
+use Rattle.floats.specs.Signs.{magnitude}
 use Rattle.floats.proofs.Opposites.{opposite-magnitude}
 use Rattle.vectors.specs.Order.{sorted, axisOrder}
 use Rattle.vectors.specs.Vectors.{sizes, case, entry, reference}

@@ -2,7 +2,7 @@
 use Prim.Native.Nat.{ℕ, suc, _+_, _-_, _*_, _<_}
 use mathlib.Core.Path.{_≡_, refl}
 use native.Mathlib.Omega.{arith}
-use lib.IntN.{ℤ, pos, negsuc}
+use lib.IntN.{pos, negsuc}
 use lib.Ieee.{Float, fin, neg, binary64, ofBits}
 use mathlib.Core.Bool.{false}
 use Rattle.common.specs.Floats.{zero₆₄, half₆₄, times}

@@ -1,12 +1,12 @@
 -- How far the differences of coordinates reach: with a cell's side and the mirror-exact nodes each is finite. Assumes nothing.
 use mathlib.Core.Path.{_≡_, refl, sym}
-use mathlib.Core.Bool.{Bool, true, false, not, and-eq-true-iff, true≢false}
+use mathlib.Core.Bool.{Bool, true, false, and-eq-true-iff, true≢false}
 use Prim.Native.Nat.{ℕ, zero, suc, _*_, _^_, _<_, _≤_}
 use native.Mathlib.Nat.{le-trans, le-of-eq, one-mul, mul-one, not-suc-le-zero}
 use native.Mathlib.Omega.{arith}
 use lib.Dec.{T, leb, lit≤}
 use lib.IntN.{ℤ, pos, natAbs}
-use lib.Ieee.{Float, nan, inf, fin, up, down, neg, ofInt, ofBits, binary64, fits, isNan, le}
+use lib.Ieee.{Float, nan, inf, fin, up, down, neg, ofInt, ofBits, binary64, fits, le}
 use lib.Ieee.Fits.{sub-fits}
 use lib.Ieee.Positive.{positive, num, den, between, le→cross}
 use borrow.Author.Tests.{leb-true}

@@ -8,6 +8,7 @@ use lib.ListN.{length}
 use borrow.Author.Tests.{eqb-true, eq-eqb, ne-eqb}
 use Rattle.common.specs.Lists.{tabulate}
 use Rattle.common.specs.Refusals.{orderNumber}
+use Rattle.common.proofs.Cases.{inside}
 use Rattle.common.proofs.Limits.{order-in, order-out, call-refused, call-done, passed, order-passed}
 use Rattle.nodes.specs.Nodes.{node, nodesNumber, nodesCall}
 
@@ -23,6 +24,10 @@ module _ (p n : ℕ) where
   pub nodes-none : orderNumber p ≡ 0 → n ≡ p → 0 ≡ nodesNumber p n
   unfolding nodesNumber
   nodes-none ok e = rw (order-in p ok, eq-eqb n p e)
+
+  pub nodes-taken : 1 ≤ p → p ≤ 16 → n ≡ p → nodesNumber p n ≡ 0
+  unfolding nodesNumber
+  nodes-taken l u e = rw (inside 1 16 p l u, eq-eqb n p e)
 
   pub nodes-accepted : nodesNumber p n ≡ 0 → (1 ≤ p) × (p ≤ 16) × (n ≡ p)
   unfolding nodesNumber

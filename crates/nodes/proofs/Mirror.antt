@@ -2,7 +2,7 @@
 use mathlib.Core.Path.{_≡_}
 use Prim.Native.Nat.{ℕ, _+_, _-_, _*_, _<_, _≤_}
 use native.Mathlib.Omega.{arith}
-use lib.Ieee.{Float, neg}
+use lib.Ieee.{neg}
 use borrow.Author.Tests.{lt-ltb, le-ltb}
 use Rattle.common.specs.Floats.{zero₆₄}
 use Rattle.nodes.specs.Nodes.{node}

@@ -26,7 +26,7 @@ use Rattle.turn.proofs.Right.{case-below, right-alike}
 -- THE NUMBERS: each call gives 0
 
 module _ (D p : ℕ) (ok : Shape D p) where
-  look-up-taken : (v : Vector) → FarVector D v → lookUpNumber D (sizes (entries v)) ≡ 0
+  pub look-up-taken : (v : Vector) → FarVector D v → lookUpNumber D (sizes (entries v)) ≡ 0
   unfolding lookUpNumber atMost
   look-up-taken v w =
       let none : (a : ℕ) → natAbs (entries v (D + a)) ≤ 0 = λ a. rw (w .past (D + a) (omega arith)) (omega arith) in
@@ -51,7 +51,7 @@ module _ (D p : ℕ) (ok : Shape D p) where
       )
 
   -- a table of the right length is filled
-  filled : (k : ℕ) (f : ℕ → ℕ) (l : List ℕ) → k < cases D → length l ≡ p ^ D → tableCall D p k f l ≡ (0, tabulate (p ^ D) f)
+  pub filled : (k : ℕ) (f : ℕ → ℕ) (l : List ℕ) → k < cases D → length l ≡ p ^ D → tableCall D p k f l ≡ (0, tabulate (p ^ D) f)
   unfolding tableCall
   filled k f l b e = sym (call-done 0 _ (tabulate (p ^ D) f) l (sym (table-taken k l b e)) (tabulate (p ^ D) f) refl refl)
 

@@ -52,7 +52,8 @@ enum {
     BBFMM_NO_FIRST_LINE = 13, /* a Matrix Market text has not the first line that is read */
     BBFMM_NO_SIZE = 14,     /* it has no size line, or a size is not 0 to 1,024 */
     BBFMM_BAD_ENTRY = 15,   /* an entry is not a whole number of at most 2^53 in size, or, in writing, is -0.0 */
-    BBFMM_WRONG_COUNT = 16  /* there are too few entries, or too many */
+    BBFMM_WRONG_COUNT = 16, /* there are too few entries, or too many */
+    BBFMM_NO_SET = 17       /* a set of nodes is not 0 or 1 */
 };
 
 /* What the calls that read and write Matrix Market texts answer, taken apart: BBFMM_DONE or the number of a refusal; and the line that
@@ -127,6 +128,18 @@ uint8_t bbfmm_inverse_permutation(
  * Refuses with 2, 7.
  */
 uint8_t bbfmm_generate_chebyshev_nodes(size_t order, double *nodes, size_t nodes_length);
+
+/* A set of nodes: the Rust's, which bbfmm_generate_chebyshev_nodes gives; and the mirror-exact one, the upper half of the Rust's with
+   its exact negations below, and +0.0 in the middle of an odd order. */
+enum { BBFMM_SET_RUST = 0, BBFMM_SET_MIRROR_EXACT = 1 };
+
+/*
+ * The Chebyshev nodes of an order in a set. With points that are made of the mirror-exact ones, a turned block sees exactly the
+ * distances of the stored one: on each axis the difference between a source and a target coordinate has the same bits but for the sign.
+ * nodes: p entries. They become the nodes, rising.
+ * Refuses with 2, 7, 17.
+ */
+uint8_t bbfmm_generate_node_set(size_t order, size_t set, double *nodes, size_t nodes_length);
 
 /*
  * The Chebyshev polynomials at points, of which there are P = rows, at most 4,096; and, if wanted, their derivatives.

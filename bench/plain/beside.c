@@ -9,7 +9,7 @@ int memcmp(const void *left, const void *right, size_t bytes);
 void *malloc(size_t bytes);
 void *calloc(size_t count, size_t bytes);
 
-enum { CALLS = 30, SIZES = 3, NUMBERS = 1000, NODES = 4096, GIVEN = 16384 };
+enum { CALLS = 31, SIZES = 3, NUMBERS = 1000, NODES = 4096, GIVEN = 16384 };
 
 static const size_t DIMENSIONS[SIZES] = {1, 2, 3};
 static const size_t ORDERS[SIZES] = {2, 8, 16};
@@ -113,7 +113,7 @@ static void make(size_t call, size_t size)
         numbers[k] = normal(k);
     }
     make_air();
-    if (call >= 28) {
+    if (call == 28 || call == 29) {
         make_text(count);
     }
 }
@@ -323,6 +323,11 @@ static void of_nodes(bool ours, size_t size)
     (ours ? bbfmm_generate_chebyshev_nodes : plain_generate_chebyshev_nodes)(ORDERS[size], written, ORDERS[size]);
 }
 
+static void of_mirror_exact(bool ours, size_t size)
+{
+    (ours ? bbfmm_generate_node_set : plain_generate_node_set)(ORDERS[size], BBFMM_SET_MIRROR_EXACT, written, ORDERS[size]);
+}
+
 static void once(bool ours, size_t call, size_t size)
 {
     size_t d = DIMENSIONS[size];
@@ -357,7 +362,8 @@ static void once(bool ours, size_t call, size_t size)
     case 26: cross(ours, size, false); break;
     case 27: cross(ours, size, true); break;
     case 28: exchange(ours, size, false); break;
-    default: exchange(ours, size, true); break;
+    case 29: exchange(ours, size, true); break;
+    default: of_mirror_exact(ours, size); break;
     }
 }
 

@@ -52,3 +52,21 @@ uint8_t plain_generate_chebyshev_nodes(size_t order, double *restrict nodes, siz
     }
     return 0;
 }
+
+uint8_t plain_generate_node_set(size_t order, size_t set, double *restrict nodes, size_t nodes_length)
+{
+    if (set > 1 && of_order(order) == 0 && nodes_length == order) {
+        return BBFMM_NO_SET;
+    }
+    uint8_t number = plain_generate_chebyshev_nodes(order, nodes, nodes_length);
+    if (number != 0 || set == 0) {
+        return number;
+    }
+    for (size_t i = 0; i < order / 2; i++) {
+        nodes[i] = -nodes[order - 1 - i];
+    }
+    if (order % 2 == 1) {
+        nodes[order / 2] = 0;
+    }
+    return 0;
+}

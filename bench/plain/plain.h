@@ -12,6 +12,7 @@ uint8_t plain_reference_vector(size_t dimension, size_t number, int32_t *restric
 uint8_t plain_combined_permutation(size_t dimension, size_t order, size_t number, uint16_t *restrict table, size_t table_length);
 uint8_t plain_inverse_permutation(size_t dimension, size_t order, size_t number, uint16_t *restrict table, size_t table_length);
 uint8_t plain_generate_chebyshev_nodes(size_t order, double *restrict nodes, size_t nodes_length);
+uint8_t plain_generate_node_set(size_t order, size_t set, double *restrict nodes, size_t nodes_length);
 uint8_t plain_evaluate_chebyshev_polynomials(
     size_t order, size_t rows, const double *restrict points, size_t points_length, bool with_derivatives, double *restrict tn,
     size_t tn_length, double *restrict dtn, size_t dtn_length);

@@ -26,7 +26,7 @@ pub const SHAPES: [(usize, usize); SIZES] = [(1, 2), (2, 8), (3, 16)];
 
 pub type Make = fn(usize) -> Measure;
 
-pub const CALLS: [(&str, Make); 30] = [
+pub const CALLS: [(&str, Make); 31] = [
     ("generate_chebyshev_nodes", polynomials::nodes),
     ("evaluate_chebyshev_polynomials", polynomials::values),
     ("evaluate_chebyshev_polynomials, with derivatives", polynomials::derivatives),
@@ -57,6 +57,7 @@ pub const CALLS: [(&str, Make); 30] = [
     ("aca_partial_pivoting, restart", choices::restart),
     ("read_block", exchange::read_block),
     ("write_block", exchange::write_block),
+    ("generate_node_set, mirror-exact", polynomials::mirror_exact),
 ];
 
 /// Floats between -1 and 1, as many as wanted, in no order.

@@ -15,6 +15,17 @@ static Outcome generate_chebyshev_nodes(size_t k)
     return (Outcome){expected, bbfmm_generate_chebyshev_nodes(order, LENT(nodes)), false};
 }
 
+/* Six orders, four sets, four lengths. */
+static Outcome generate_node_set(size_t k)
+{
+    static const size_t sets[4] = {0, 1, 2, (size_t)-1};
+    size_t order = order_at(take(&k, 6));
+    size_t set = sets[take(&k, 4)];
+    bool fits = lend(&nodes, order, k);
+    uint8_t expected = first(of_order(order), first(unless(fits, BBFMM_WRONG_LENGTH), unless(set < 2, BBFMM_NO_SET)));
+    return (Outcome){expected, bbfmm_generate_node_set(order, set, LENT(nodes)), false};
+}
+
 /* Six orders, six counts of points, with derivatives or without, four lengths for each of three buffers. */
 static Outcome evaluate_chebyshev_polynomials(size_t k)
 {
@@ -35,5 +46,6 @@ void walk_chebyshev(void)
     Buffer *const of_nodes[] = {&nodes};
     Buffer *const of_polynomials[] = {&points, &tn, &dtn};
     WALK("generate_chebyshev_nodes", 6 * 4, generate_chebyshev_nodes, of_nodes);
+    WALK("generate_node_set", 6 * 4 * 4, generate_node_set, of_nodes);
     WALK("evaluate_chebyshev_polynomials", 6 * 6 * 2 * 4 * 4 * 4, evaluate_chebyshev_polynomials, of_polynomials);
 }

@@ -245,6 +245,8 @@ static Answer *answer_of(const char *file)
         {"e08_smallest", answer_e08_smallest},
         {"e09_outside", answer_e09_outside},
         {"e10_words", answer_e10_words},
+        {"e11_nodes", answer_e11_nodes},
+        {"e11_turn", answer_e11_turn},
     };
     for (size_t i = 0; i < sizeof all / sizeof all[0]; i++) {
         if (strcmp(all[i].file, file) == 0) {

@@ -56,6 +56,8 @@ Answer answer_e07_reference;
 Answer answer_e08_smallest;
 Answer answer_e09_outside;
 Answer answer_e10_words;
+Answer answer_e11_nodes;
+Answer answer_e11_turn;
 
 /* The call of a case of E4, E8 or E10: the floats of its report, or null where it is refused. */
 const double *answer_cross(void);

@@ -60,6 +60,11 @@ static void generate_nodes(void)
     expect(bbfmm_generate_chebyshev_nodes(P, nodes, P) == 0, "bbfmm_generate_chebyshev_nodes");
 }
 
+static void generate_mirror_exact_nodes(void)
+{
+    expect(bbfmm_generate_node_set(P, 1, nodes, P) == 0, "bbfmm_generate_node_set");
+}
+
 static void evaluate_polynomials(void)
 {
     expect(bbfmm_evaluate_chebyshev_polynomials(P, P, nodes, P, true, polynomials, P * P, derivatives, P * P) == 0,
@@ -207,6 +212,7 @@ static const Call CALLS[] = {
     {"bbfmm_combined_permutation", combined_permutation, MOST},
     {"bbfmm_inverse_permutation", inverse_permutation, MOST},
     {"bbfmm_generate_chebyshev_nodes", generate_nodes, MOST},
+    {"bbfmm_generate_node_set", generate_mirror_exact_nodes, MOST},
     {"bbfmm_evaluate_chebyshev_polynomials", evaluate_polynomials, MOST},
     {"bbfmm_get_m2m_transfer_operators", get_operators, MOST},
     {"bbfmm_apply_cheb_tensor_transfer", apply_transfer, MOST},

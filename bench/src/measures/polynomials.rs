@@ -20,6 +20,17 @@ pub fn nodes(size: usize) -> Measure {
     }
 }
 
+pub fn mirror_exact(size: usize) -> Measure {
+    let order = ORDERS[size];
+    let mut nodes = vec![0.0; order];
+    Measure {
+        given: format!("order {order}"),
+        floor: order,
+        ours: Box::new(move || ours::generate_node_set(black_box(order), 1, &mut nodes).expect("a set")),
+        text: None,
+    }
+}
+
 pub fn values(size: usize) -> Measure {
     let (order, rows) = (ORDERS[size], POINTS[size]);
     let points = super::floats(rows);

@@ -27,6 +27,35 @@ pub fn generate_chebyshev_nodes(order: usize, nodes: &mut [f64]) -> Result<(), R
     told(sys::generate_chebyshev_nodes(order, nodes))
 }
 
+/// The Chebyshev nodes of an order in a set. Set 0 is what [`generate_chebyshev_nodes`] gives. Set 1
+/// is mirror-exact: the upper half of those, their exact negations below, and +0.0 in the middle of
+/// an odd order. With points made of it a turned block sees exactly the distances of the stored one
+/// along each axis.
+///
+/// - `nodes`: p entries. They become the nodes, rising.
+///
+/// # Errors
+///
+/// [`Refusal::NoOrder`], [`Refusal::WrongLength`] and [`Refusal::NoSet`].
+///
+/// # Examples
+///
+/// ```
+/// use bbfmm::{Refusal, generate_node_set};
+///
+/// let mut nodes = [0.0; 3];
+/// generate_node_set(3, 1, &mut nodes)?;
+/// assert_eq!(nodes[0], -nodes[2]);
+/// assert_eq!(nodes[1].to_bits(), 0.0_f64.to_bits());
+/// generate_node_set(3, 0, &mut nodes)?;
+/// assert!(nodes[1] > 0.0);
+/// assert_eq!(generate_node_set(3, 2, &mut nodes), Err(Refusal::NoSet));
+/// # Ok::<(), Refusal>(())
+/// ```
+pub fn generate_node_set(order: usize, set: usize, nodes: &mut [f64]) -> Result<(), Refusal> {
+    told(sys::generate_node_set(order, set, nodes))
+}
+
 /// The Chebyshev polynomials below the order at points, at most 4,096; and, if wanted, their
 /// derivatives.
 ///

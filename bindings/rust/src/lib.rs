@@ -54,7 +54,7 @@ mod transfer;
 mod turn;
 
 pub use aca::{Buffers, Mode, Report, Stop, aca_partial_pivoting};
-pub use chebyshev::{evaluate_chebyshev_polynomials, generate_chebyshev_nodes};
+pub use chebyshev::{evaluate_chebyshev_polynomials, generate_chebyshev_nodes, generate_node_set};
 pub use choices::{argmax_masked, calculate_singular_values_cutoff};
 pub use coefficients::{Gradients, get_approximation_coefficients, scale_points};
 pub use distances::{sample_distances, square_root};

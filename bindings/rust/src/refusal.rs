@@ -55,11 +55,13 @@ pub enum Refusal {
     BadEntry = 15,
     /// A Matrix Market text has too few entries, or too many.
     WrongCount = 16,
+    /// The set of nodes is not 0 or 1.
+    NoSet = 17,
 }
 
 impl Refusal {
     /// Every refusal, by rising number.
-    pub const ALL: [Refusal; 16] = [
+    pub const ALL: [Refusal; 17] = [
         Refusal::NoDimension,
         Refusal::NoOrder,
         Refusal::NoCount,
@@ -76,9 +78,10 @@ impl Refusal {
         Refusal::NoSize,
         Refusal::BadEntry,
         Refusal::WrongCount,
+        Refusal::NoSet,
     ];
 
-    /// The number of the refusal, from 1 to 16, as the library and its documents give it.
+    /// The number of the refusal, from 1 to 17, as the library and its documents give it.
     #[must_use]
     pub fn number(self) -> u8 {
         self as u8
@@ -103,6 +106,7 @@ impl Refusal {
             Refusal::NoSize => "there are no sizes of 0 to 1,024",
             Refusal::BadEntry => "an entry is not whole, too large, or -0.0",
             Refusal::WrongCount => "there are too few entries, or too many",
+            Refusal::NoSet => "the set of nodes is not 0 or 1",
         }
     }
 }
@@ -123,5 +127,5 @@ pub(crate) fn told(number: u8) -> Result<(), Refusal> {
     let place = usize::from(number) - 1;
     Err(*Refusal::ALL
         .get(place)
-        .expect("a libbbfmm.a of this version answers 0 to 16"))
+        .expect("a libbbfmm.a of this version answers 0 to 17"))
 }

@@ -64,6 +64,13 @@ unsafe extern "C" {
 
     fn bbfmm_generate_chebyshev_nodes(order: usize, nodes: *mut f64, nodes_length: usize) -> u8;
 
+    fn bbfmm_generate_node_set(
+        order: usize,
+        set: usize,
+        nodes: *mut f64,
+        nodes_length: usize,
+    ) -> u8;
+
     fn bbfmm_evaluate_chebyshev_polynomials(
         order: usize,
         rows: usize,
@@ -312,6 +319,11 @@ pub(crate) fn inverse_permutation(
 pub(crate) fn generate_chebyshev_nodes(order: usize, nodes: &mut [f64]) -> u8 {
     // SAFETY: one slice, lent mutably, by its pointer and length.
     unsafe { bbfmm_generate_chebyshev_nodes(order, nodes.as_mut_ptr(), nodes.len()) }
+}
+
+pub(crate) fn generate_node_set(order: usize, set: usize, nodes: &mut [f64]) -> u8 {
+    // SAFETY: one slice, lent mutably, by its pointer and length.
+    unsafe { bbfmm_generate_node_set(order, set, nodes.as_mut_ptr(), nodes.len()) }
 }
 
 pub(crate) fn evaluate_chebyshev_polynomials(

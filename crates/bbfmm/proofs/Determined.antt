@@ -10,6 +10,7 @@ use Rattle.vectors.specs.declared.Vector.{Vector}
 use Rattle.turn.specs.Turned.{turned, returned}
 use Rattle.turn.specs.Tables.{tableCall}
 use Rattle.nodes.specs.Nodes.{nodesCall}
+use Rattle.nodes.specs.Sets.{setCall}
 use Rattle.chebyshev.specs.Polynomials.{polynomialsCall}
 use Rattle.operators.specs.Operators.{operatorsCall}
 use Rattle.transfer.specs.Tensor.{transferCall}
@@ -54,6 +55,10 @@ module _ (dimension order case : ℕ) (table : List ℕ) (r r' : ℕ × List ℕ
 module _ (order : ℕ) (nodes : List Float) (r r' : ℕ × List Float) where
   bbfmm-generate-chebyshev-nodes-determined : r ≡ nodesCall order nodes → r' ≡ nodesCall order nodes → r ≡ r'
   bbfmm-generate-chebyshev-nodes-determined = coincide r r' (nodesCall order nodes)
+
+module _ (order set : ℕ) (nodes : List Float) (r r' : ℕ × List Float) where
+  bbfmm-generate-node-set-determined : r ≡ setCall order set nodes → r' ≡ setCall order set nodes → r ≡ r'
+  bbfmm-generate-node-set-determined = coincide r r' (setCall order set nodes)
 
 module _ (order rows : ℕ) (with : Bool) (points tn dtn : List Float) (r r' : ℕ × List Float × List Float) where
   bbfmm-evaluate-chebyshev-polynomials-determined : r ≡ polynomialsCall order rows with points tn dtn →

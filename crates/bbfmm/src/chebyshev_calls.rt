@@ -1,9 +1,11 @@
 // Chebyshev nodes, polynomials and their derivatives.
 ghost use mathlib.Core.Path.{_≡_};
 ghost use Rattle.nodes.specs.Nodes.{nodesCall};
+ghost use Rattle.nodes.specs.Sets.{setCall};
 ghost use Rattle.chebyshev.specs.Polynomials.{polynomialsCall};
 use chebyshev::evaluate_chebyshev_polynomials;
 use nodes::generate_chebyshev_nodes;
+use nodes::generate_node_set;
 
 // The nodes of an order, rising.
 #[no_mangle]
@@ -11,6 +13,14 @@ pub extern "C" fn bbfmm_generate_chebyshev_nodes(order: usize, nodes: &mut [f64]
     ensures { λ r. ⌜ (r, now (nodes .exit)) ≡ nodesCall order (now (nodes .entry)) ⌝ }
 {
     generate_chebyshev_nodes(order, nodes)
+}
+
+// The nodes of an order in a set, rising: 0 is the Rust's, 1 is mirror-exact.
+#[no_mangle]
+pub extern "C" fn bbfmm_generate_node_set(order: usize, set: usize, nodes: &mut [f64]) -> u8
+    ensures { λ r. ⌜ (r, now (nodes .exit)) ≡ setCall order set (now (nodes .entry)) ⌝ }
+{
+    generate_node_set(order, set, nodes)
 }
 
 // T and, if wanted, T' at each point: a row a point, a column a polynomial.

@@ -1,4 +1,5 @@
 pub mod Opposites
 pub mod Reach
 pub mod FloatRight
+pub mod FloatCalls
 pub mod Rusts

@@ -5,6 +5,10 @@ ghost use lib.ListN.{length};
 ghost use Rattle.common.specs.Lists.{tabulate};
 ghost use Rattle.nodes.specs.Nodes.{node, nodesNumber, nodesCall};
 
+mod sets;
+
+pub use sets::generate_node_set;
+
 // The nodes of each order, rising.
 const NODES_1: [f64; 1] = [6.123233995736766e-17];
 

@@ -1,6 +1,8 @@
 //! Nodes, polynomials and their derivatives.
 
-use bbfmm::{evaluate_chebyshev_polynomials, generate_chebyshev_nodes};
+use std::cmp::Ordering;
+
+use bbfmm::{evaluate_chebyshev_polynomials, generate_chebyshev_nodes, generate_node_set};
 
 use crate::draw::Draw;
 use crate::held::{Tally, bits};
@@ -48,6 +50,56 @@ fn nodes_are_refused() {
         tally.floats(&order, &answer, ruled, [&before, &lent]);
     }
     tally.reached("generate_chebyshev_nodes", &[0, 2, 7]);
+}
+
+/// The nodes of an order in a set, from the Rust's bits: those of set 1 are mirrored.
+fn of_set(order: usize, set: usize) -> Vec<f64> {
+    let rusts: Vec<f64> = written(order).into_iter().map(f64::from_bits).collect();
+    if set == 0 {
+        return rusts;
+    }
+    let mirrored = |i: usize| match (2 * i + 1).cmp(&order) {
+        Ordering::Less => -rusts[order - 1 - i],
+        Ordering::Equal => 0.0,
+        Ordering::Greater => rusts[i],
+    };
+    (0..order).map(mirrored).collect()
+}
+
+#[test]
+fn sets_are_made_from_the_rusts_nodes() {
+    for order in 1..=16 {
+        for set in 0..=1 {
+            let mut nodes = vec![f64::NAN; order];
+            generate_node_set(order, set, &mut nodes).expect("a set");
+            assert_eq!(
+                bits(&nodes),
+                bits(&of_set(order, set)),
+                "order {order}, set {set}"
+            );
+        }
+    }
+}
+
+#[test]
+fn sets_are_refused() {
+    let mut draw = Draw::new(23);
+    let mut tally = Tally::default();
+    for _ in 0..6_000 {
+        let order = draw.number(1..=16);
+        let set = draw.number(0..=1);
+        let before = [draw.lent(order.min(17))];
+        let mut lent = before.clone();
+        let answer = generate_node_set(order, set, &mut lent[0]);
+        let faults = [
+            (17, set > 1),
+            rule::bad_length(&lent[0], &[order]),
+            rule::bad_order(order),
+        ];
+        let ruled = rule::refusal(&faults).map(|()| [of_set(order, set)]);
+        tally.floats(&(order, set), &answer, ruled, [&before, &lent]);
+    }
+    tally.reached("generate_node_set", &[0, 2, 7, 17]);
 }
 
 /// Few points, or as many as may be, or one more.

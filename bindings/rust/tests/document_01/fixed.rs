@@ -186,7 +186,7 @@ fn a_nan_is_a_pivot_in_the_old_mode_only() {
 #[test]
 fn numbers_and_refusals_agree() {
     let numbers = Refusal::ALL.map(Refusal::number);
-    assert_eq!(numbers, [1, 2, 3, 4, 5, 6, 7, 8, 9, 10, 11, 12, 13, 14, 15, 16]);
+    assert_eq!(numbers, [1, 2, 3, 4, 5, 6, 7, 8, 9, 10, 11, 12, 13, 14, 15, 16, 17]);
     assert_eq!(
         [Stop::Tolerable, Stop::Spent, Stop::UsedUp, Stop::AllTried].map(Stop::number),
         [1, 2, 3, 4]

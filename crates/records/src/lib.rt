@@ -4,8 +4,8 @@ ghost use mathlib.Core.Path.{_≡_};
 ghost use lib.Dec.{leb};
 ghost use lib.ListN.{length};
 ghost use Rattle.text.specs.Text.{put as Text·put};
-ghost use Rattle.vectors.specs.LookUps.{toldLookUp};
-ghost use Rattle.records.specs.Text.{counted, knownLine, line, recordLine, toldAnswer, answerCall};
+ghost use Rattle.vectors.specs.LookUps.{toldLookUp, lookUp};
+ghost use Rattle.records.specs.Text.{vector, knownLine, line, recordLine, toldAnswer, answerCall};
 ghost use Rattle.records.specs.Text.{signed as Text·signed, text as Text·text};
 use vectors::Known;
 use vectors::LookUp;
@@ -54,7 +54,7 @@ fn fits(input: &[u8], room: usize) -> bool
         at += 4;
     }
     if at < input.len() {
-        return put_counted(&mut line, 0, b"short", input.len() - at) <= left;
+        return text::put_counted(&mut line, 0, b"short", (input.len() - at) as u64) <= left;
     }
     true
 }
@@ -77,7 +77,7 @@ fn put_records(output: &mut [u8], input: &[u8]) -> usize
         at += 4;
     }
     if at < input.len() {
-        return put_counted(output, to, b"short", input.len() - at);
+        return text::put_counted(output, to, b"short", (input.len() - at) as u64);
     }
     to
 }
@@ -86,8 +86,15 @@ fn put_records(output: &mut [u8], input: &[u8]) -> usize
 fn put_record(output: &mut [u8], to: usize, dimension: u8, x: u8, y: u8, z: u8) -> usize
     ensures { λ r. ⌜ (r, now (output .exit)) ≡ Text·put to (recordLine dimension x y z) (now (output .entry)) ⌝ }
 {
-    let found = vectors::look_up(dimension as usize, Vector(signed(x), signed(y), signed(z)));
+    let found = look_up_bytes(dimension, x, y, z);
     put_line(output, to, found)
+}
+
+// What is known of the vector that three signed bytes are, in the dimension that an unsigned one is.
+pub fn look_up_bytes(dimension: u8, x: u8, y: u8, z: u8) -> LookUp
+    ensures { λ r. ⌜ toldLookUp r ≡ lookUp dimension (vector x y z) ⌝ }
+{
+    vectors::look_up(dimension as usize, Vector(signed(x), signed(y), signed(z)))
 }
 
 // A byte as a signed number.
@@ -101,7 +108,7 @@ fn put_line(output: &mut [u8], to: usize, found: LookUp) -> usize
     ensures { λ r. ⌜ (r, now (output .exit)) ≡ Text·put to (line (toldLookUp found)) (now (output .entry)) ⌝ }
 {
     match found {
-        LookUp::Refused(number) => put_counted(output, to, b"refused", number as usize),
+        LookUp::Refused(number) => text::put_counted(output, to, b"refused", number as u64),
         LookUp::Found(known) => put_known(output, to, known),
     }
 }
@@ -117,13 +124,4 @@ fn put_known(output: &mut [u8], to: usize, known: Known) -> usize
     } else {
         text::put(output, after_reference, b" far\n")
     }
-}
-
-// A word, a number and the line's end.
-fn put_counted(output: &mut [u8], to: usize, word: &[u8], n: usize) -> usize
-    ensures { λ r. ⌜ (r, now (output .exit)) ≡ Text·put to (counted (now (word .entry)) n) (now (output .entry)) ⌝ }
-{
-    let after_word = text::put(output, to, word);
-    let after_number = text::put_next(output, after_word, n as u64);
-    text::put_byte(output, after_number, b'\n')
 }

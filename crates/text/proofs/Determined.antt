@@ -3,7 +3,7 @@ use mathlib.Core.Path.{_≡_, sym, _∙_}
 use mathlib.Core.List.{List, [], _∷_, _++_}
 use Prim.Native.Nat.{ℕ}
 use Rattle.common.proofs.Determined.{coincide}
-use Rattle.text.specs.Text.{decimal, spaced, refusedWord, unknownWord, put, Ended}
+use Rattle.text.specs.Text.{decimal, spaced, counted, refusedWord, unknownWord, put, Ended}
 
 module _ (line exit exit' : List ℕ) (to r r' : ℕ) where
   put-determined : (word : List ℕ) → (r, exit) ≡ put to word line → (r', exit') ≡ put to word line →
@@ -21,6 +21,10 @@ module _ (line exit exit' : List ℕ) (to r r' : ℕ) where
   put-next-determined : (n : ℕ) → (r, exit) ≡ put to (spaced n) line → (r', exit') ≡ put to (spaced n) line →
       _≡_ {A = ℕ × List ℕ} (r, exit) (r', exit')
   put-next-determined n = put-determined (spaced n)
+
+  put-counted-determined : (word : List ℕ) (n : ℕ) → (r, exit) ≡ put to (counted word n) line → (r', exit') ≡ put to (counted word n) line →
+      _≡_ {A = ℕ × List ℕ} (r, exit) (r', exit')
+  put-counted-determined word n = put-determined (counted word n)
 
   put-refusal-determined : (n : ℕ) → (r, exit) ≡ put to (refusedWord ++ spaced n) line →
       (r', exit') ≡ put to (refusedWord ++ spaced n) line →

@@ -1,6 +1,7 @@
 -- The text of numbers: how long it is, and that the digits of `io` are its digits. Assumes nothing.
 use mathlib.Core.Path.{_≡_}
-use Prim.Native.Nat.{ℕ, zero, suc, _-_, _*_, _/_, _%_, _^_, _≤_, _<_, zero-le}
+use mathlib.Core.List.{List}
+use Prim.Native.Nat.{ℕ, zero, suc, _+_, _-_, _*_, _/_, _%_, _^_, _≤_, _<_, zero-le}
 use native.Mathlib.Nat.{not-suc-le-zero, mod-lt, mod-eq-of-lt, one-le-pow, pow-suc, pow-le-pow-right, le-trans, div-lt-iff-lt-mul, le-div-iff-mul-le}
 use native.Mathlib.Omega.{arith}
 use lib.Dec.{ltb, lit<}
@@ -8,7 +9,7 @@ use lib.ListN.{length, length-append}
 use borrow.Author.Tests.{lt-ltb, le-ltb}
 use Rattle.common.proofs.Cases.{by-bool, by-lt}
 use Rattle.io.specs.Digits.{digits, Fewest}
-use Rattle.text.specs.Text.{decimalIn, decimal}
+use Rattle.text.specs.Text.{decimalIn, decimal, counted}
 
 -- LENGTHS
 
@@ -25,6 +26,9 @@ decimal-length n = in-length 20 n
 pub decimal-digit : (n : ℕ) → n < 10 → length (decimal n) ≡ 1
 unfolding decimal decimalIn
 decimal-digit n l = rw (lt-ltb n 10 l)
+
+pub counted-length : (w : List ℕ) (n : ℕ) → length (counted w n) ≡ length w + (length (decimal n) + 2)
+counted-length w n = rw (length-append, length-append) (omega arith)
 
 -- DIGITS
 

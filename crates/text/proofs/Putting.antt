@@ -75,3 +75,6 @@ put-fits to w l h = let whole : to + min (length w) (length l - to) ≡ to + len
 -- a word that fits, from the first place on
 pub put-front : (w l : List ℕ) → length w ≤ length l → put 0 w l ≡ (length w, w ++ drop (length w) l)
 put-front w l h = let none : 0 + length w ≡ length w = omega arith in put-fits 0 w l (omega arith) ∙ rw none
+
+pub put-size : {r : ℕ} {m : List ℕ} (w l : List ℕ) → length w ≤ length l → (r, m) ≡ put 0 w l → r ≡ length w
+put-size {r} {m} w l h e = ap (λ (t : ℕ × List ℕ). t .0) (e ∙ put-front w l h)

@@ -23,6 +23,10 @@ decimal n = decimalIn 20 n
 abbrev pub spaced : ℕ → List ℕ
 spaced n = 32 ∷ decimal n
 
+-- a word, a space, a number and the line's end
+abbrev pub counted : (word : List ℕ) → ℕ → List ℕ
+counted word n = word ++ (spaced n ++ 10 ∷ [])
+
 -- PUTTING
 
 -- The place past a word, and the line with the word's bytes over its own from place `to` on. What has no room is left out.

@@ -3,7 +3,7 @@
 ghost use mathlib.Core.Path.{_≡_};
 ghost use mathlib.Core.List.{[], _∷_, _++_};
 ghost use Prim.Native.Nat.{_-_};
-ghost use Rattle.text.specs.Text.{decimal, spaced, refusedWord, unknownWord, Ended};
+ghost use Rattle.text.specs.Text.{decimal, spaced, counted, refusedWord, unknownWord, Ended};
 ghost use Rattle.text.specs.Text.{put as Text·put};
 
 // How many bytes of a line lie from a place on.
@@ -50,6 +50,15 @@ pub fn put_next(line: &mut [u8], to: usize, n: u64) -> usize
 {
     let after_space = put_byte(line, to, b' ');
     put_number(line, after_space, n)
+}
+
+// A word, a space, a number and the line's end.
+pub fn put_counted(line: &mut [u8], to: usize, word: &[u8], n: u64) -> usize
+    ensures { λ r. ⌜ (r, now (line .exit)) ≡ Text·put to (counted (now (word .entry)) n) (now (line .entry)) ⌝ }
+{
+    let after_word = put(line, to, word);
+    let after_number = put_next(line, after_word, n);
+    put_byte(line, after_number, b'\n')
 }
 
 // The number that a call refused with.

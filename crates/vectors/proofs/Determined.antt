@@ -30,7 +30,7 @@ turning-told (turning.Refused n) (turning.Refused n') e = let number : n ≡ n' 
 turning-told (turning.Found t) (turning.Refused n) e = let values : some t ≡ none = ap (λ u. u .1) e in cc
 turning-told (turning.Refused n) (turning.Found t) e = let values : none ≡ some t = ap (λ u. u .1) e in cc
 
-look-up-determined : (dimension : ℕ) (vector : Vector) (r r' : LookUp) → toldLookUp r ≡ lookUp dimension vector →
+pub look-up-determined : (dimension : ℕ) (vector : Vector) (r r' : LookUp) → toldLookUp r ≡ lookUp dimension vector →
     toldLookUp r' ≡ lookUp dimension vector → r ≡ r'
 look-up-determined dimension vector r r' e e' = look-up-told r r' (e ∙ sym e')
 

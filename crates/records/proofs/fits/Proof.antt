@@ -8,7 +8,7 @@ use native.Mathlib.Omega.{arith}
 use borrow.Author.Tests.{le-leb}
 use lib.ListN.{length, getD, drop}
 use Rattle.text.specs.Text.{put}
-use Rattle.text.proofs.Putting.{put-length}
+use Rattle.text.proofs.Putting.{put-length, put-size}
 use Rattle.records.specs.Text.{recordLine, short, text}
 use Rattle.records.proofs.Lines.{record-most, short-size, text-record, text-short, text-end}
 use Rattle.records.proofs.Answers.{Measured, measured-all, measured-more, measured-less}
@@ -26,12 +26,6 @@ abbrev μ-loop : tie.MeasureT-loop
 abbrev record-line : (input : List ℕ) (at : ℕ) → List ℕ
 record-line i at = recordLine (getD i at 0) (getD i (at + 1) 0) (getD i (at + 2) 0) (getD i (at + 3) 0)
 
--- a line that is put into a room of 68 bytes is measured
-measured : {r : ℕ} {m : List ℕ} (w l : List ℕ) → length l ≡ 68 → length w ≤ 68 → (r, m) ≡ put 0 w l → r ≡ length w
-measured {r} {m} w l long small e =
-    let place : r ≡ 0 + min (length w) (length l - 0) = ap (λ (t : ℕ × List ℕ). t .0) e in
-    omega arith
-
 module _ (c : tie.After-put-record Inv-loop μ-loop) where
   abbrev at-loop : tie.At-loop Inv-loop μ-loop
   at-loop = c .before .before .before .before .before .before .before
@@ -43,7 +37,9 @@ module _ (c : tie.After-put-record Inv-loop μ-loop) where
   here = record-line input (at-loop .loop .at)
 
   size : c .put-record .result ≡ length here
-  size = measured here (at-loop .loop .line) (at-loop .loop .inv .1) (record-most _ _ _ _) (c .put-record .ensures)
+  size =
+      let most : length here ≤ 68 = record-most _ _ _ _ in
+      put-size here (at-loop .loop .line) (omega arith) (c .put-record .ensures)
 
   next : text (drop (at-loop .loop .at) input) ≡ here ++ text (drop (at-loop .loop .at + 4) input)
   next = text-record input (at-loop .loop .at) (omega arith)
@@ -121,7 +117,7 @@ returns-2 c =
     let i = p .before .before .before .before .before .before .before .args .input .now in
     let k = length i - l .at in
     let long = short-size k (omega arith) in
-    let size = measured (short k) (l .line) (l .inv .1) (omega arith) (p .put-counted .ensures) in
+    let size = put-size (short k) (l .line) (omega arith) (p .put-counted .ensures) in
     measured-all (text i) (text (drop (l .at) i)) _ (l .left) (l .inv .2) (p .put-counted .result)
     (ap length (text-short i (l .at) (omega arith) (omega arith)) ∙ sym size)
 

@@ -1,0 +1,9 @@
+pub mod Bytes
+pub mod Records
+pub mod Verdicts
+pub mod Files
+pub mod Again
+pub mod Lines
+pub mod Stored
+pub mod Calls
+pub mod Tallies

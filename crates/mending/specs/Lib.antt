@@ -1,0 +1,4 @@
+pub mod Mending
+pub mod Tallies
+pub mod Promises
+pub mod Working

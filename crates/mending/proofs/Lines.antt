@@ -63,7 +63,9 @@ module _ (l : List ℕ) (n : ℕ) (k : Known) where
         append-assoc,
       )
 
-  pub places-later : places (changedLater k l) ≡ places (placeIf 4 (getD l 4 0) (k .case)) ++ (places (placeIf 5 (getD l 5 0) (k .reference)) ++ (places (placeIf 6 (getD l 6 0) 0) ++ places (placeIf 7 (getD l 7 0) 0)))
+  pub places-later : places (changedLater k l)
+      ≡ places (placeIf 4 (getD l 4 0) (k .case)) ++
+      (places (placeIf 5 (getD l 5 0) (k .reference)) ++ (places (placeIf 6 (getD l 6 0) 0) ++ places (placeIf 7 (getD l 7 0) 0)))
   unfolding changedLater
   places-later = rw (places-append, places-append, places-append)
 

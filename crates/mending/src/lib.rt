@@ -49,10 +49,28 @@ pub fn tally(text: &[u8]) -> Totals
     }
 }
 
+// How many bytes are this letter, part by part.
 fn count_of(text: &[u8], letter: u8) -> usize
     ensures { λ r. ⌜ r ≡ occurs letter (now (text .entry)) ⌝ }
 {
     let mut count = 0;
+    let mut i = 0;
+    while i < text.len() {
+        let end = i + common::least(text.len() - i, PART);
+        count += widened(count_few(&text[i..end], letter));
+        i = end;
+    }
+    count
+}
+
+// So few bytes are counted in a byte, which is quicker: the compiler then takes sixteen at a time.
+const PART: usize = 240;
+
+fn count_few(text: &[u8], letter: u8) -> u8
+    requires { ⌜ length (now text) ≤ 240 ⌝ }
+    ensures { λ r. ⌜ r ≡ occurs letter (now (text .entry)) ⌝ }
+{
+    let mut count = 0u8;
     let mut i = 0;
     while i < text.len() {
         if text[i] == letter {
@@ -61,6 +79,12 @@ fn count_of(text: &[u8], letter: u8) -> usize
         i += 1;
     }
     count
+}
+
+fn widened(n: u8) -> usize
+    ensures { λ r. ⌜ r ≡ n ⌝ }
+{
+    n as usize
 }
 
 // The bytes of a record.
@@ -136,6 +160,7 @@ fn store_right(output: &mut [u8], at: usize, found: LookUp, input: &[u8])
     requires { ⌜ (at + 8 ≤ length (now output)) × (at + 8 ≤ length (now input)) × (toldLookUp found ≡ foundOf (drop at (now input))) ⌝ }
     ensures { λ _. ⌜ (at + 8, now (output .exit)) ≡ Text·put at (right (drop at (now (input .entry)))) (now (output .entry)) ⌝ }
 {
+    let dimension = input[at];
     match found {
         LookUp::Refused(number) => {
             store_four(output, at, 0, 0, 0, 0);
@@ -145,7 +170,7 @@ fn store_right(output: &mut [u8], at: usize, found: LookUp, input: &[u8])
             store_four(
                 output,
                 at,
-                input[at],
+                dimension,
                 input[at + 1],
                 input[at + 2],
                 input[at + 3],

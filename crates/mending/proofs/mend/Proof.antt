@@ -41,7 +41,8 @@ returns-3 c =
     let i = m .before .before .before in
     let f = i .before in
     let a = f .before .before .before .before .before .args in
-    call-written (a .input .now) (a .output .now) (a .text .now) _ _ _ (omega arith) (sym (of-not _ false (i .if2 .left)) ∙ f .fits2 .ensures)
+    let fits = sym (of-not _ false (i .if2 .left)) ∙ f .fits2 .ensures in
+    call-written (a .input .now) (a .output .now) (a .text .now) _ _ _ (omega arith) fits
     (m .mend-records .ensures .0) (m .mend-records .ensures .1)
 
 pub mend-spec : {M : Type 1} → statement M

@@ -27,8 +27,14 @@ abbrev μ-loop : tie.MeasureT-loop
 
 loop-holds : tie.Need-loop-holds Inv-loop μ-loop
 loop-holds c =
-    let a = c .before .before .before .args in
-    (omega arith, refl, refl, refl, begun (mendedFile (a .input .now)) (a .output .now), begun (Mending·text (a .input .now)) (a .text .now))
+    let a = c .before .before .before .args in (
+      omega arith,
+      refl,
+      refl,
+      refl,
+      begun (mendedFile (a .input .now)) (a .output .now),
+      begun (Mending·text (a .input .now)) (a .text .now),
+    )
 
 sub-loop : tie.Need-sub-loop Inv-loop μ-loop
 sub-loop c = omega arith

@@ -29,7 +29,8 @@ returns c =
     let k = t .before in
     let a = k .before .before .before .args in
     let none = sym (k .is-kept .ensures) ∙ t .if1 .taken in
-    p .put-kept .ensures ∙ ap (λ (w : List ℕ). put (a .to) w (a .text .now)) (sym (kept-line (changedLater (a .known) (drop (a .at) (a .input .now))) none))
+    p .put-kept .ensures ∙ ap (λ (w : List ℕ). put (a .to) w (a .text .now))
+    (sym (kept-line (changedLater (a .known) (drop (a .at) (a .input .now))) none))
 
 slice-aggregate-put : tie.Need-slice-aggregate-put
 slice-aggregate-put c = search needs

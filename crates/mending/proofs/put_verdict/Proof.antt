@@ -39,7 +39,8 @@ returns c =
     let g = p .before .before .before .before in
     let a = g .before .before .before .before .args in
     let known = sym (ap toldLookUp (g .found .given .1)) ∙ g .before .before .before .before .pre .1 in
-    p .put-counted .ensures ∙ ap (λ (w : List ℕ). put (a .to) w (a .text .now)) (sym (line-refused (drop (a .at) (a .input .now)) _ (sym known)))
+    p .put-counted .ensures ∙ ap (λ (w : List ℕ). put (a .to) w (a .text .now))
+    (sym (line-refused (drop (a .at) (a .input .now)) _ (sym known)))
 
 same-length-2 : tie.Need-same-length-2
 same-length-2 c = search needs
@@ -50,7 +51,8 @@ returns-2 c =
     let g = p .before .before .before in
     let a = g .before .before .before .before .args in
     let known = sym (ap toldLookUp (g .found2 .given .1)) ∙ g .before .before .before .before .pre .1 in
-    p .put-taken .ensures ∙ ap (λ (w : List ℕ). put (a .to) w (a .text .now)) (sym (line-taken (drop (a .at) (a .input .now)) _ _ (sym known)))
+    p .put-taken .ensures ∙ ap (λ (w : List ℕ). put (a .to) w (a .text .now))
+    (sym (line-taken (drop (a .at) (a .input .now)) _ _ (sym known)))
 
 pub put-verdict-spec : {M : Type 1} → statement M
 put-verdict-spec =

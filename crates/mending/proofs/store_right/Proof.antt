@@ -1,5 +1,5 @@
--- `mending::store_right` meets its contract: eight zeros, or the record's first four bytes and those of the lookup, which fit a byte. Assumes
--- nothing.
+-- `mending::store_right` meets its contract: eight zeros, or the record's first four bytes and those of the lookup, which fit a byte.
+-- Assumes nothing.
 use mathlib.Core.Path.{sym, ap, _∙_}
 use mathlib.Core.List.{[], _∷_}
 use Prim.Native.Nat.{_+_}
@@ -10,6 +10,9 @@ use Rattle.mending.proofs.Stored.{right-refused, right-taken, right-sto
 use borrow.Author.Needs.{needs}
 use Rattle.mending.proofs.store_right.Statement.{statement}
 use Rattle.mending.proofs.store_right.Tie as tie
+
+shared-slice-read-dimension : tie.Need-shared-slice-read-dimension
+shared-slice-read-dimension c = search needs
 
 enum-known-found : tie.Need-enum-known-found
 enum-known-found c = search needs
@@ -26,26 +29,23 @@ store-four-requires-2 c κs = search needs
 enum-known-found-2 : tie.Need-enum-known-found-2
 enum-known-found-2 c = search needs
 
-shared-slice-read-store-four : tie.Need-shared-slice-read-store-four
-shared-slice-read-store-four c = search needs
-
 add-store-four-2 : tie.Need-add-store-four-2
 add-store-four-2 c = search needs
 
-shared-slice-read-store-four-2 : tie.Need-shared-slice-read-store-four-2
-shared-slice-read-store-four-2 c = search needs
+shared-slice-read-store-four : tie.Need-shared-slice-read-store-four
+shared-slice-read-store-four c = search needs
 
 add-store-four-3 : tie.Need-add-store-four-3
 add-store-four-3 c = search needs
 
-shared-slice-read-store-four-3 : tie.Need-shared-slice-read-store-four-3
-shared-slice-read-store-four-3 c = search needs
+shared-slice-read-store-four-2 : tie.Need-shared-slice-read-store-four-2
+shared-slice-read-store-four-2 c = search needs
 
 add-store-four-4 : tie.Need-add-store-four-4
 add-store-four-4 c = search needs
 
-shared-slice-read-store-four-4 : tie.Need-shared-slice-read-store-four-4
-shared-slice-read-store-four-4 c = search needs
+shared-slice-read-store-four-3 : tie.Need-shared-slice-read-store-four-3
+shared-slice-read-store-four-3 c = search needs
 
 store-four-requires-3 : tie.Need-store-four-requires-3
 store-four-requires-3 c κs = search needs
@@ -55,15 +55,15 @@ add-store-four-5 c = search needs
 
 cast-store-four : tie.Need-cast-store-four
 cast-store-four c =
-    let g = c .before .before .before .before .before .before .before .before .before .before .before in
-    let x = g .before .before .before .before in
+    let g = c .before .before .before .before .before .before .before .before .before .before in
+    let x = g .before .before .before .before .before in
     let known = sym (ap toldLookUp (g .found2 .given .1)) ∙ x .pre .2 in
     record { fits = found-bytes (drop (x .args .at) (x .args .input .now)) _ _ (sym known) .0 }
 
 cast-store-four-2 : tie.Need-cast-store-four-2
 cast-store-four-2 c =
-    let g = c .before .before .before .before .before .before .before .before .before .before .before .before in
-    let x = g .before .before .before .before in
+    let g = c .before .before .before .before .before .before .before .before .before .before .before in
+    let x = g .before .before .before .before .before in
     let known = sym (ap toldLookUp (g .found2 .given .1)) ∙ x .pre .2 in
     record { fits = found-bytes (drop (x .args .at) (x .args .input .now)) _ _ (sym known) .1 }
 
@@ -78,7 +78,7 @@ returns c =
     let s₂ = c .before .before in
     let s₁ = s₂ .before .before .before .before in
     let g = s₁ .before .before .before in
-    let x = g .before .before .before .before in
+    let x = g .before .before .before .before .before in
     let known = sym (ap toldLookUp (g .found .given .1)) ∙ x .pre .2 in
     right-stored (x .args .input .now) (x .args .at) (0 ∷ 0 ∷ 0 ∷ 0 ∷ []) (0 ∷ 0 ∷ 0 ∷ 0 ∷ []) (x .args .output .now)
     (right-refused (x .args .input .now) (x .args .at) _ (sym known)) (s₁ .store-four .ensures) (s₂ .store-four2 .ensures)
@@ -90,8 +90,8 @@ returns-2 : tie.Need-returns-2
 returns-2 c =
     let s₂ = c .before .before in
     let s₁ = s₂ .before .before .before .before .before .before in
-    let g = s₁ .before .before .before .before .before .before .before in
-    let x = g .before .before .before .before in
+    let g = s₁ .before .before .before .before .before .before in
+    let x = g .before .before .before .before .before in
     let k = g .found2 .given .0 .0 in
     let i = x .args .input .now in
     let at = x .args .at in
@@ -104,18 +104,18 @@ pub store-right-spec : {M : Type 1} → statement M
 store-right-spec =
     tie.close
     (tie.spec
+    shared-slice-read-dimension
     enum-known-found
     store-four-requires
     add-store-four
     store-four-requires-2
     enum-known-found-2
-    shared-slice-read-store-four
     add-store-four-2
-    shared-slice-read-store-four-2
+    shared-slice-read-store-four
     add-store-four-3
-    shared-slice-read-store-four-3
+    shared-slice-read-store-four-2
     add-store-four-4
-    shared-slice-read-store-four-4
+    shared-slice-read-store-four-3
     store-four-requires-3
     add-store-four-5
     cast-store-four

@@ -1,4 +1,3 @@
-pub mod Products
 pub mod Stretches
 pub mod Result
 pub mod Calls

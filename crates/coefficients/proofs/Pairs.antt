@@ -27,7 +27,7 @@ use Rattle.coefficients.specs.Before as old
 use Rattle.coefficients.specs.Pair.{wantedOf, scaled, found, LowestOfTwo, LowestAskedFirst, InTurn, SameValues}
 use Rattle.coefficients.specs.declared.wanted.Wanted.{Wanted}
 use Rattle.coefficients.specs.declared.wanted.Wanted.the-variants.{Values, Gradients}
-use Rattle.coefficients.proofs.Products.{others-cong}
+use Rattle.products.proofs.Products.{others-cong}
 use Rattle.coefficients.proofs.Calls.{number-taken}
 
 -- THE NUMBERS, by the tests: a dimension, b order, c count, l and m the lengths of either call, s side, q coordinates and e places of the

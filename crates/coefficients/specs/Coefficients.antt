@@ -12,6 +12,7 @@ use Rattle.common.specs.Refusals.{noDimension, noOrder, noCount, wrongLength, n
 use Rattle.common.specs.Refusals.{sizeIf, unless, isDimension, isOrder, isCell, mostPoints, left}
 use Rattle.coordinates.specs.Coordinates.{allFinite}
 use Rattle.axes.specs.Axes.{S, S′, onAxes}
+use Rattle.products.specs.Products.{others}
 use Rattle.coefficients.specs.declared.Lengths.{Lengths}
 use Rattle.coefficients.specs.declared.wanted.Wanted.{Wanted}
 use Rattle.coefficients.specs.declared.wanted.Wanted.the-variants.{Values, Gradients}
@@ -20,11 +21,6 @@ use Rattle.coefficients.specs.declared.wanted.Wanted.the-variants.{Value
 unfoldable pub products : (n : ℕ) → (ℕ → Float) → Float
 products zero f = one₆₄
 products (suc n) f = times (products n f) (f n)
-
--- a start times f 0, times f 1, .. times f (n - 1), with f g left out
-unfoldable pub others : (g : ℕ) → (start : Float) → (n : ℕ) → (ℕ → Float) → Float
-others g v zero f = v
-others g v (suc n) f = cond (eqb n g) (others g v n f) (times (others g v n f) (f n))
 
 -- AT REFERENCE COORDINATES: x i a is that of point i on axis a
 

@@ -4,13 +4,13 @@ ghost use Rattle.common.specs.Matrices.{matrix};
 ghost use Rattle.coefficients.specs.Coefficients.{lengths, coefficientsCall};
 ghost use Rattle.coefficients.specs.Working.{Admitted, filled};
 use crate::columns::fill_gradients;
-use crate::columns::fill_started;
 use crate::limits::coefficients_number;
 use crate::wanted::Wanted;
 use crate::wanted::side_of;
 use crate::wanted::with_gradients;
 use axes::Cell;
 use axes::fill_axes;
+use products::fill_started;
 
 fn fill_coefficients(
     cell: Cell,

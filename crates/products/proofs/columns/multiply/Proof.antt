@@ -1,11 +1,11 @@
--- `coefficients::columns::multiply` meets its contract: by the dimension. Assumes nothing.
+-- `products::columns::multiply` meets its contract: by the dimension. Assumes nothing.
 use mathlib.Core.Path.{_≡_, _∙_}
 use native.Mathlib.Omega.{arith}
 use Rattle.common.proofs.Fill.{fill-all, tabulate-cong}
-use Rattle.coefficients.proofs.Products.{product-one, product-two, product-three}
+use Rattle.products.proofs.Products.{product-one, product-two, product-three}
 use borrow.Author.Needs.{needs}
-use Rattle.coefficients.proofs.columns.multiply.Statement.{statement}
-use Rattle.coefficients.proofs.columns.multiply.Tie as tie
+use Rattle.products.proofs.columns.multiply.Statement.{statement}
+use Rattle.products.proofs.columns.multiply.Tie as tie
 
 copy-column-requires : tie.Need-copy-column-requires
 copy-column-requires c κs = search needs

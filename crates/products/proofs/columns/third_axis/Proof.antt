@@ -1,8 +1,8 @@
--- `coefficients::columns::third_axis` meets its contract: each return by the tests that led there. Assumes nothing.
+-- `products::columns::third_axis` meets its contract: each return by the tests that led there. Assumes nothing.
 use borrow.Author.Tests.{le-leb, lt-leb, eq-eqb, ne-eqb}
 use borrow.Author.Needs.{needs}
-use Rattle.coefficients.proofs.columns.third_axis.Statement.{statement}
-use Rattle.coefficients.proofs.columns.third_axis.Tie as tie
+use Rattle.products.proofs.columns.third_axis.Statement.{statement}
+use Rattle.products.proofs.columns.third_axis.Tie as tie
 
 sub-result : tie.Need-sub-result
 sub-result c = search needs

@@ -1,11 +1,11 @@
--- `coefficients::columns::place_of` meets its contract. Assumes nothing.
+-- `products::columns::place_of` meets its contract. Assumes nothing.
 use mathlib.Core.Path.{ap}
 use Prim.Native.Nat.{ℕ, _+_, _*_, _≤_, _<_}
 use native.Mathlib.Nat.{mul-le-mul}
 use native.Mathlib.Omega.{arith}
 use Rattle.common.proofs.Digits.{digit-below}
-use Rattle.coefficients.proofs.columns.place_of.Statement.{statement}
-use Rattle.coefficients.proofs.columns.place_of.Tie as tie
+use Rattle.products.proofs.columns.place_of.Statement.{statement}
+use Rattle.products.proofs.columns.place_of.Tie as tie
 
 -- the column's number is small
 fits : (c : tie.After-index-on) → c .before .args .axis * c .before .args .cell .order + c .index-on .result ≤ 64

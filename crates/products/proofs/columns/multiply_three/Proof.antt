@@ -1,4 +1,4 @@
--- `coefficients::columns::multiply_three` meets its contract. The loop keeps `Filling`: i rows have their products. Assumes nothing.
+-- `products::columns::multiply_three` meets its contract. The loop keeps `Filling`: i rows have their products. Assumes nothing.
 use borrow.Author.Needs.{needs}
 use mathlib.Core.Path.{refl, sym, _∙_}
 use Prim.Native.Nat.{_-_}
@@ -8,8 +8,8 @@ use lib.Ieee.{nan}
 use lib.ListN.{getD}
 use Rattle.common.specs.Floats.{times}
 use Rattle.common.proofs.Fill.{Filling, filling-none, filling-more, filling-done, fill-all}
-use Rattle.coefficients.proofs.columns.multiply_three.Statement.{statement}
-use Rattle.coefficients.proofs.columns.multiply_three.Tie as tie
+use Rattle.products.proofs.columns.multiply_three.Statement.{statement}
+use Rattle.products.proofs.columns.multiply_three.Tie as tie
 
 abbrev Inv-loop : tie.InvT-loop
 Inv-loop rows first second third column₀ i₀ column i = Filling 0 rows (λ j. times (times (getD first j nan) (getD second j nan))

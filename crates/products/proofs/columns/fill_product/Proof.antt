@@ -1,13 +1,13 @@
--- `coefficients::columns::fill_product` meets its contract: the product of the node's columns. Assumes nothing.
+-- `products::columns::fill_product` meets its contract: the product of the node's columns. Assumes nothing.
 use mathlib.Core.Path.{_≡_, refl, _∙_}
 use Prim.Native.Nat.{_+_, _≤_}
 use native.Mathlib.Omega.{arith}
 use lib.ListN.{length}
 use Rattle.common.proofs.Fill.{part-length}
-use Rattle.coefficients.proofs.Products.{source-axes, source-room, product-lent}
+use Rattle.products.proofs.Products.{source-axes, source-room, product-lent}
 use borrow.Author.Needs.{needs}
-use Rattle.coefficients.proofs.columns.fill_product.Statement.{statement}
-use Rattle.coefficients.proofs.columns.fill_product.Tie as tie
+use Rattle.products.proofs.columns.fill_product.Statement.{statement}
+use Rattle.products.proofs.columns.fill_product.Tie as tie
 
 -- the three columns have their places
 rooms : (c : tie.After-place-of3) →

@@ -1,10 +1,10 @@
--- `coefficients::columns::fill_started` meets its contract: the sources in their order. Assumes nothing.
+-- `products::columns::fill_started` meets its contract: the sources in their order. Assumes nothing.
 use mathlib.Core.Path.{_∙_}
 use Prim.Native.Nat.{_^_}
-use Rattle.coefficients.proofs.Products.{sources, started-columns}
+use Rattle.products.proofs.Products.{sources, started-columns}
 use borrow.Author.Needs.{needs}
-use Rattle.coefficients.proofs.columns.fill_started.Statement.{statement}
-use Rattle.coefficients.proofs.columns.fill_started.Tie as tie
+use Rattle.products.proofs.columns.fill_started.Statement.{statement}
+use Rattle.products.proofs.columns.fill_started.Tie as tie
 
 second-axis-requires : tie.Need-second-axis-requires
 second-axis-requires c κs = search needs

@@ -1,4 +1,4 @@
--- `coefficients::columns::fill_products` meets its contract. The loop keeps `Stepping`: the columns of the nodes before `node` are
+-- `products::columns::fill_products` meets its contract. The loop keeps `Stepping`: the columns of the nodes before `node` are
 -- filled. Assumes nothing.
 use mathlib.Core.Path.{_≡_, refl, sym, ap, _∙_}
 use mathlib.Core.List.{List}
@@ -10,10 +10,10 @@ use Rattle.common.specs.Matrices.{cell}
 use Rattle.common.proofs.Fill.{part-length}
 use Rattle.common.proofs.Matrices.{columns-filled}
 use Rattle.common.proofs.Steps.{Stepping, stepping-none, stepping-fits, stepping-done, column-lent}
-use Rattle.coefficients.specs.Working.{three, productOf}
+use Rattle.products.specs.Products.{three, productOf}
 use borrow.Author.Needs.{needs}
-use Rattle.coefficients.proofs.columns.fill_products.Statement.{statement}
-use Rattle.coefficients.proofs.columns.fill_products.Tie as tie
+use Rattle.products.proofs.columns.fill_products.Statement.{statement}
+use Rattle.products.proofs.columns.fill_products.Tie as tie
 
 -- the columns, by their places
 abbrev columnsOf : (D p P f s t : ℕ) → (a b c : List Float) → ℕ → Float

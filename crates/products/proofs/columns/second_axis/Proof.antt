@@ -1,7 +1,7 @@
--- `coefficients::columns::second_axis` meets its contract: each return by the tests that led there. Assumes nothing.
+-- `products::columns::second_axis` meets its contract: each return by the tests that led there. Assumes nothing.
 use borrow.Author.Tests.{le-leb, lt-leb, eq-eqb, ne-eqb}
-use Rattle.coefficients.proofs.columns.second_axis.Statement.{statement}
-use Rattle.coefficients.proofs.columns.second_axis.Tie as tie
+use Rattle.products.proofs.columns.second_axis.Statement.{statement}
+use Rattle.products.proofs.columns.second_axis.Tie as tie
 
 returns : tie.Need-returns
 returns c = rw (le-leb _ 1 (c .if1 .taken))

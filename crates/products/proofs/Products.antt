@@ -4,24 +4,24 @@ use mathlib.Core.Bool.{cond}
 use mathlib.Core.List.{List}
 use Prim.Native.Nat.{ℕ, zero, suc, _+_, _-_, _*_, _<_, _≤_}
 use native.Mathlib.Omega.{arith}
-use lib.Arith.{digits-lt}
-use lib.Dec.{T as Holds, eqb, leb}
-use lib.Ieee.{Float, nan, binary64, fits}
+use lib.Arith.{digits-lt, digits-div, digits-mod}
+use lib.Dec.{eqb, leb}
+use lib.Ieee.{Float, nan}
 use lib.ListN.{length, getD}
-use borrow.Author.Tests.{ne-eqb, leb-false}
+use borrow.Author.Tests.{leb-false}
 use Rattle.common.specs.Digits.{digit}
-use Rattle.common.specs.Floats.{times, one₆₄}
+use Rattle.common.specs.Floats.{times}
 use Rattle.common.specs.Lists.{tabulate}
 use Rattle.common.specs.Matrices.{columnMajor}
 use Rattle.common.specs.Refusals.{Shape}
 use Rattle.common.proofs.Cases.{by-bool, by-eq}
 use Rattle.common.proofs.Digits.{digit-below}
 use Rattle.common.proofs.Fill.{tabulate-cong, part-read}
-use Rattle.common.proofs.Matrices.{column-fits, column-cong}
-use Rattle.common.proofs.Ones.{one-times}
+use Rattle.common.proofs.Matrices.{column-fits, column-cong, column-entry}
 use Rattle.axes.proofs.Stretches.{part}
-use Rattle.coefficients.specs.Coefficients.{products, others}
-use Rattle.coefficients.specs.Working.{three, chain, placeOf, productOf, secondAxis, thirdAxis, startedOf, Sources}
+use Rattle.axes.specs.Axes.{onAxes}
+use Rattle.products.specs.Products.{others, three, chain, placeOf, productOf, startedOf, Sources}
+use Rattle.products.specs.Working.{secondAxis, thirdAxis}
 
 -- the column of an axis is one of a buffer's
 pub place-fits : (D p P k a : ℕ) → 1 ≤ p → a < D → placeOf D p P k a + P ≤ D * p * P
@@ -87,17 +87,6 @@ module _ (D p P g s t : ℕ) (starts factors : List Float) (shape : Shape D p) (
       (λ i k _ _. started D g _ _ _ (shape .dimension-least) (shape .dimension-most) axis refl
       (ap (λ (a : ℕ). getD factors (placeOf D p P k a + i) nan) second) (ap (λ (a : ℕ). getD factors (placeOf D p P k a + i) nan) third))
 
--- 1 times all factors starts with the first, which 1 leaves as it is
-
-products-others : (n : ℕ) (f : ℕ → Float) → products (suc n) f ≡ others 0 (times one₆₄ (f 0)) (suc n) f
-unfolding products others
-products-others zero f = refl
-products-others (suc n) f = rw (ne-eqb (suc n) 0 (λ z. omega arith)) (ap (λ (x : Float). times x (f (suc n))) (products-others n f))
-
-pub products-at : (D : ℕ) (f : ℕ → Float) → 1 ≤ D → Holds (fits binary64 (f 0)) → products D f ≡ others 0 (f 0) D f
-products-at zero f h t = absurd (omega arith)
-products-at (suc n) f h t = products-others n f ∙ ap (λ (x : Float). others 0 x (suc n) f) (one-times (f 0) t)
-
 -- the same start and the same factors
 pub others-cong : (g : ℕ) (v w : Float) (n : ℕ) (f h : ℕ → Float) → v ≡ w → ((a : ℕ) → a < n → (a ≡ g → ⊥) → f a ≡ h a) →
     others g v n f ≡ others g w n h
@@ -159,3 +148,11 @@ module _ (D : ℕ) (a b c : List Float) where
   pub product-three : D ≡ 3 → (i : ℕ) → times (times (getD a i nan) (getD b i nan)) (getD c i nan) ≡ chain (D - 1) (entries i)
   unfolding chain three
   product-three d i = rw d
+
+-- S, or what else is found on all axes, at the index of node k on axis a
+module _ (D p P : ℕ) (x : (i a : ℕ) → Float) (some : 1 ≤ p) where
+  pub axis-entry : (f : ℕ → Float → Float) (l : List Float) → l ≡ columnMajor P (D * p) (onAxes f p x) → (i k a : ℕ) → i < P → a < D →
+      getD l (placeOf D p P k a + i) nan ≡ f (digit p D a k) (x i a)
+  axis-entry f l e i k a b m =
+      let d = digit-below p D a k some in
+      rw e (column-entry P (onAxes f p x) (D * p) i (a * p + digit p D a k) nan b (digits-lt m d) ∙ rw (digits-mod a d, digits-div a d))

@@ -1,7 +1,7 @@
 /*
  * The operators behind the goaf gas maps, for C and C++: Chebyshev nodes and polynomials, transfer between a block and its
- * children, turning a block, points, square roots and distances, coefficients, ratio maps, blocks as Matrix Market texts, cross
- * approximation.
+ * children, turning a block, points, square roots and distances, coefficients of values, gradients and curvature, ratio maps, blocks
+ * as Matrix Market texts, cross approximation.
  *
  * `rt staticlib bbfmm` proves the calls and writes target/staticlib/libbbfmm.a, for x86-64. The archive takes memcpy and memset
  * from the C library and nothing else. It allocates nothing and keeps nothing between calls. No call takes more than 2 KiB of stack.
@@ -152,6 +152,17 @@ uint8_t bbfmm_evaluate_chebyshev_polynomials(
     size_t order, size_t rows, const double *points, size_t points_length, bool with_derivatives, double *tn, size_t tn_length,
     double *dtn, size_t dtn_length);
 
+/*
+ * The Chebyshev polynomials at points, of which there are P = rows, at most 4,096; their derivatives, and their second derivatives.
+ * points: P entries.
+ * tn, dtn: P by p each. They become what bbfmm_evaluate_chebyshev_polynomials leaves there with derivatives.
+ * ddtn: P by p. Column j becomes the second derivative of T_j at the points.
+ * Refuses with 2, 3, 7.
+ */
+uint8_t bbfmm_evaluate_second_derivatives(
+    size_t order, size_t rows, const double *points, size_t points_length, double *tn, size_t tn_length, double *dtn,
+    size_t dtn_length, double *ddtn, size_t ddtn_length);
+
 /* TRANSFER */
 
 /*
@@ -226,9 +237,9 @@ uint8_t bbfmm_sample_distances(
 /* COEFFICIENTS */
 
 /*
- * Coefficients take two calls: the first scales points, the second takes what the first leaves. Values, then gradients, at the same
- * points need one scaling. What is scaled already must not be scaled again: it would be taken for other points. If the second call
- * refuses, the points stay scaled.
+ * Coefficients take two calls: the first scales points, the second takes what the first leaves. Values, then gradients, then curvature,
+ * at the same points need one scaling. What is scaled already must not be scaled again: it would be taken for other points. If the
+ * second call refuses, the points stay scaled.
  */
 
 /*
@@ -258,6 +269,25 @@ uint8_t bbfmm_get_approximation_coefficients(
     size_t dimension, size_t order, size_t rows, bool with_gradients, double length, const double *node_polynomials,
     size_t node_polynomials_length, const double *coordinates, size_t coordinates_length, double *values, size_t values_length,
     double *gradients, size_t gradients_length, double *factors, size_t factors_length, double *slopes, size_t slopes_length);
+
+/*
+ * The curvature of what each node of a cell of this length counts for, at points, of which there are P = rows, at most 4,096: its second
+ * derivative along each pair of axes g, h with g <= h, the pairs in the order (0,0), (0,1), (0,2), (1,1), (1,2), (2,2) as far as D goes.
+ * The points are given by reference coordinates, and the curvature is along the axes of the cell itself.
+ * node_polynomials: p by p. Column k has T_k at the nodes.
+ * coordinates: P by D, a row a point, as bbfmm_scale_points leaves them. A coordinate outside the cell is taken.
+ * curvatures: P by N * D * (D + 1) / 2. Column q * N + n becomes the curvature of what node n counts for, along pair number q.
+ * factors, slopes: P by D * p each, room to work in. They become what bbfmm_get_approximation_coefficients leaves there with gradients.
+ * bends: P by D * p, room to work in. Column a * p + n becomes the second derivative of the share of index n on axis a.
+ * room: P by 3 * p, room to work in. It becomes T, T' and T'' at the coordinates of the last axis, in this order, as
+ *     bbfmm_evaluate_second_derivatives leaves them.
+ * Refuses with 1, 2, 3, 7, 8, 9.
+ */
+uint8_t bbfmm_get_curvature_coefficients(
+    size_t dimension, size_t order, size_t rows, double length, const double *node_polynomials, size_t node_polynomials_length,
+    const double *coordinates, size_t coordinates_length, double *curvatures, size_t curvatures_length, double *factors,
+    size_t factors_length, double *slopes, size_t slopes_length, double *bends, size_t bends_length, double *room,
+    size_t room_length);
 
 /* RATIO MAPS */
 

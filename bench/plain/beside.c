@@ -8,8 +8,9 @@ int atoi(const char *word);
 int memcmp(const void *left, const void *right, size_t bytes);
 void *malloc(size_t bytes);
 void *calloc(size_t count, size_t bytes);
+void free(void *place);
 
-enum { CALLS = 31, SIZES = 3, NUMBERS = 1000, NODES = 4096, GIVEN = 16384 };
+enum { CALLS = 33, SIZES = 3, NUMBERS = 1000, NODES = 4096, GIVEN = 16384 };
 
 static const size_t DIMENSIONS[SIZES] = {1, 2, 3};
 static const size_t ORDERS[SIZES] = {2, 8, 16};
@@ -87,7 +88,8 @@ static void make(size_t call, size_t size)
     size_t each = power(order, 3) * 4096;
     bool has_values = call == 17 || call == 21 || call == 23;
     bool has_gradients = call == 18 || call == 22;
-    written_count = has_gradients ? 4 * each + 500000 : has_values ? each + 500000 : 2400000;
+    bool has_curvatures = call == 32;
+    written_count = has_curvatures ? 6 * each + 1000000 : has_gradients ? 4 * each + 500000 : has_values ? each + 500000 : 2400000;
     table_count = 8192;
     given = malloc(GIVEN * sizeof *given);
     nodes = malloc(16 * sizeof *nodes);
@@ -139,6 +141,17 @@ static void polynomials_at(bool ours, size_t size, bool with_derivatives)
                 p, rows, given, rows, with_derivatives, tn, p * rows, dtn, with_derivatives ? p * rows : 0);
 }
 
+static void second_derivatives_at(bool ours, size_t size)
+{
+    size_t p = ORDERS[size];
+    size_t rows = MANY_POINTS[size];
+    double *tn = written;
+    double *dtn = tn + p * rows;
+    double *ddtn = dtn + p * rows;
+    (ours ? bbfmm_evaluate_second_derivatives : plain_evaluate_second_derivatives)(
+        p, rows, given, rows, tn, p * rows, dtn, p * rows, ddtn, p * rows);
+}
+
 /* The cell lies about the origin and has side 2, so that scaling leaves the points as they are, call after call. The number is kept,
    since where a point is refused nothing else is there to compare. */
 static void scale(bool ours, size_t d, size_t rows)
@@ -172,6 +185,22 @@ static void coefficients(bool ours, size_t size, bool with_gradients)
     (ours ? bbfmm_get_approximation_coefficients : plain_get_approximation_coefficients)(
         d, p, rows, with_gradients, 2, polynomials, p * p, given, d * rows, of_values, n, gradients, with_gradients ? d * n : 0,
         factors, axes, slopes, with_gradients ? axes : 0);
+}
+
+static void curvature(bool ours, size_t size)
+{
+    size_t d = DIMENSIONS[size];
+    size_t p = ORDERS[size];
+    size_t rows = CELL_POINTS[size];
+    size_t n = d * (d + 1) / 2 * power(p, d) * rows;
+    size_t axes = d * p * rows;
+    double *factors = written;
+    double *slopes = factors + axes;
+    double *bends = slopes + axes;
+    double *room = bends + axes;
+    double *curvatures = room + 3 * p * rows;
+    (ours ? bbfmm_get_curvature_coefficients : plain_get_curvature_coefficients)(
+        d, p, rows, 2, polynomials, p * p, given, d * rows, curvatures, n, factors, axes, slopes, axes, bends, axes, room, 3 * p * rows);
 }
 
 /* What one call did before they were two. */
@@ -363,7 +392,9 @@ static void once(bool ours, size_t call, size_t size)
     case 27: cross(ours, size, true); break;
     case 28: exchange(ours, size, false); break;
     case 29: exchange(ours, size, true); break;
-    default: of_mirror_exact(ours, size); break;
+    case 30: of_mirror_exact(ours, size); break;
+    case 31: second_derivatives_at(ours, size); break;
+    default: curvature(ours, size); break;
     }
 }
 
@@ -378,10 +409,14 @@ static bool is_alike(size_t call, size_t size)
     int32_t ours_vector[3] = {vector[0], vector[1], vector[2]};
     make(call, size);
     once(false, call, size);
-    return memcmp(ours_given, given, GIVEN * sizeof *given) == 0 &&
-           memcmp(ours_written, written, written_count * sizeof *written) == 0 &&
-           memcmp(ours_table, table, table_count * sizeof *table) == 0 && memcmp(ours_answer, answer, sizeof answer) == 0 &&
-           memcmp(ours_vector, vector, sizeof vector) == 0;
+    bool is = memcmp(ours_given, given, GIVEN * sizeof *given) == 0 &&
+              memcmp(ours_written, written, written_count * sizeof *written) == 0 &&
+              memcmp(ours_table, table, table_count * sizeof *table) == 0 && memcmp(ours_answer, answer, sizeof answer) == 0 &&
+              memcmp(ours_vector, vector, sizeof vector) == 0;
+    /* The curvature of the largest size is 800 MB on each side. */
+    free(ours_written);
+    free(written);
+    return is;
 }
 
 int main(int count, char **words)

@@ -1,31 +1,7 @@
 /* Points scaled; and coefficients at reference coordinates: S and S' of each axis, and columns that are their products. */
-#include "plain.h"
+#include "columns.h"
 
-/* The sums of a node's column become S, or S'. */
-static void fill_axis(
-    size_t order, size_t rows, const double *restrict tn, const double *restrict node_polynomials, bool is_slope, double side,
-    double *restrict out)
-{
-    double share = 2 / (double)order;
-    double per_side = 2 / side;
-    for (size_t node = 0; node < order; node++) {
-        double *column = out + node * rows;
-        for (size_t i = 0; i < rows; i++) {
-            column[i] = 0;
-        }
-        for (size_t k = 0; k < order; k++) {
-            double t = node_polynomials[k * order + node];
-            for (size_t i = 0; i < rows; i++) {
-                column[i] += tn[k * rows + i] * t;
-            }
-        }
-        for (size_t i = 0; i < rows; i++) {
-            column[i] = is_slope ? (column[i] * share) * per_side : (column[i] * 2 - 1) / (double)order;
-        }
-    }
-}
-
-/* The same for every axis. Values and gradients hold the polynomials and their derivatives meanwhile. */
+/* S and S' of every axis. Values and gradients hold the polynomials and their derivatives meanwhile. */
 static void fill_axes(
     size_t dimension, size_t order, size_t rows, bool with_gradients, double side, const double *restrict node_polynomials,
     const double *restrict coordinates, double *restrict values, double *restrict gradients, double *restrict factors,
@@ -35,33 +11,10 @@ static void fill_axes(
     for (size_t axis = 0; axis < dimension; axis++) {
         plain_evaluate_chebyshev_polynomials(
             order, rows, coordinates + axis * rows, rows, with_gradients, values, each, gradients, with_gradients ? each : 0);
-        fill_axis(order, rows, values, node_polynomials, false, side, factors + axis * each);
+        fill_axis(order, rows, values, node_polynomials, FACTOR, side, factors + axis * each);
         if (with_gradients) {
-            fill_axis(order, rows, gradients, node_polynomials, true, side, slopes + axis * each);
+            fill_axis(order, rows, gradients, node_polynomials, SLOPE, side, slopes + axis * each);
         }
-    }
-}
-
-/* The column of one node: the product of one column an axis, the start's first. */
-static void fill_column(size_t dimension, size_t rows, const double *const *from, double *restrict column)
-{
-    const double *a = from[0];
-    if (dimension == 1) {
-        for (size_t i = 0; i < rows; i++) {
-            column[i] = a[i];
-        }
-        return;
-    }
-    const double *b = from[1];
-    if (dimension == 2) {
-        for (size_t i = 0; i < rows; i++) {
-            column[i] = a[i] * b[i];
-        }
-        return;
-    }
-    const double *c = from[2];
-    for (size_t i = 0; i < rows; i++) {
-        column[i] = (a[i] * b[i]) * c[i];
     }
 }
 

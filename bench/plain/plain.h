@@ -16,6 +16,9 @@ uint8_t plain_generate_node_set(size_t order, size_t set, double *restrict nodes
 uint8_t plain_evaluate_chebyshev_polynomials(
     size_t order, size_t rows, const double *restrict points, size_t points_length, bool with_derivatives, double *restrict tn,
     size_t tn_length, double *restrict dtn, size_t dtn_length);
+uint8_t plain_evaluate_second_derivatives(
+    size_t order, size_t rows, const double *restrict points, size_t points_length, double *restrict tn, size_t tn_length,
+    double *restrict dtn, size_t dtn_length, double *restrict ddtn, size_t ddtn_length);
 uint8_t plain_get_m2m_transfer_operators(
     size_t order, const double *restrict nodes, size_t nodes_length, const double *restrict node_polynomials,
     size_t node_polynomials_length, double *restrict operators, size_t operators_length);
@@ -42,6 +45,11 @@ uint8_t plain_get_approximation_coefficients(
     size_t node_polynomials_length, const double *restrict coordinates, size_t coordinates_length, double *restrict values,
     size_t values_length, double *restrict gradients, size_t gradients_length, double *restrict factors, size_t factors_length,
     double *restrict slopes, size_t slopes_length);
+uint8_t plain_get_curvature_coefficients(
+    size_t dimension, size_t order, size_t rows, double side, const double *restrict node_polynomials,
+    size_t node_polynomials_length, const double *restrict coordinates, size_t coordinates_length, double *restrict curvatures,
+    size_t curvatures_length, double *restrict factors, size_t factors_length, double *restrict slopes, size_t slopes_length,
+    double *restrict bends, size_t bends_length, double *restrict room, size_t room_length);
 uint8_t plain_graham_ratios(
     size_t dimension, size_t order, double side, size_t rows, double floor, const double *restrict centre, size_t centre_length,
     const double *restrict node_polynomials, size_t node_polynomials_length, double *restrict points, size_t points_length,

@@ -1,4 +1,4 @@
-/* Polynomials, derivatives and the operators made of them. */
+/* Polynomials, derivatives, second derivatives and the operators made of them. */
 #include "plain.h"
 
 uint8_t plain_evaluate_chebyshev_polynomials(
@@ -26,6 +26,52 @@ uint8_t plain_evaluate_chebyshev_polynomials(
         for (size_t i = 0; i < rows; i++) {
             d[i] = j == 0 ? 0 : j == 1 ? 1 : ((2 * t[i - rows]) + ((2 * points[i]) * d[i - rows])) - d[i - 2 * rows];
         }
+    }
+    return 0;
+}
+
+/* Column j, from the two columns before it. */
+static void fill_second(
+    size_t rows, const double *restrict x, const double *restrict t2, const double *restrict t1, double *restrict t,
+    const double *restrict d2, const double *restrict d1, double *restrict d, const double *restrict dd2,
+    const double *restrict dd1, double *restrict dd)
+{
+    for (size_t i = 0; i < rows; i++) {
+        double twice = 2 * x[i];
+        t[i] = twice * t1[i] - t2[i];
+        d[i] = ((2 * t1[i]) + (twice * d1[i])) - d2[i];
+        dd[i] = ((4 * d1[i]) + (twice * dd1[i])) - dd2[i];
+    }
+}
+
+uint8_t plain_evaluate_second_derivatives(
+    size_t order, size_t rows, const double *restrict points, size_t points_length, double *restrict tn, size_t tn_length,
+    double *restrict dtn, size_t dtn_length, double *restrict ddtn, size_t ddtn_length)
+{
+    if (of_order(order) != 0) {
+        return of_order(order);
+    }
+    if (rows > 4096) {
+        return BBFMM_NO_COUNT;
+    }
+    if (points_length != rows || tn_length != order * rows || dtn_length != order * rows || ddtn_length != order * rows) {
+        return BBFMM_WRONG_LENGTH;
+    }
+    for (size_t i = 0; i < rows; i++) {
+        tn[i] = 1;
+        dtn[i] = 0;
+        ddtn[i] = 0;
+    }
+    for (size_t i = 0; order > 1 && i < rows; i++) {
+        tn[rows + i] = points[i];
+        dtn[rows + i] = 1;
+        ddtn[rows + i] = 0;
+    }
+    for (size_t j = 2; j < order; j++) {
+        double *t = tn + j * rows;
+        double *d = dtn + j * rows;
+        double *dd = ddtn + j * rows;
+        fill_second(rows, points, t - 2 * rows, t - rows, t, d - 2 * rows, d - rows, d, dd - 2 * rows, dd - rows, dd);
     }
     return 0;
 }

@@ -26,7 +26,7 @@ pub const SHAPES: [(usize, usize); SIZES] = [(1, 2), (2, 8), (3, 16)];
 
 pub type Make = fn(usize) -> Measure;
 
-pub const CALLS: [(&str, Make); 31] = [
+pub const CALLS: [(&str, Make); 33] = [
     ("generate_chebyshev_nodes", polynomials::nodes),
     ("evaluate_chebyshev_polynomials", polynomials::values),
     ("evaluate_chebyshev_polynomials, with derivatives", polynomials::derivatives),
@@ -58,6 +58,8 @@ pub const CALLS: [(&str, Make); 31] = [
     ("read_block", exchange::read_block),
     ("write_block", exchange::write_block),
     ("generate_node_set, mirror-exact", polynomials::mirror_exact),
+    ("evaluate_second_derivatives", polynomials::second_derivatives),
+    ("get_curvature_coefficients", cells::curvature),
 ];
 
 /// Floats between -1 and 1, as many as wanted, in no order.

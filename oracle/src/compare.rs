@@ -1,5 +1,6 @@
-//! Compares our programs with the Rust text on cases drawn from a seed, and stores nothing. Restart mode
-//! and Graham's ratio, which the text does not have, are compared with our own writing of their rules.
+//! Compares our programs with the Rust text on cases drawn from a seed, and stores nothing. Restart mode,
+//! Graham's ratio, second derivatives and curvature, which the text does not have, are compared with our
+//! own writing of their rules.
 
 mod blocks;
 mod calls;

@@ -11,6 +11,8 @@ mod cross_exact;
 mod cross_orders;
 mod cross_rule;
 mod crosses;
+mod curvature_rule;
+mod curvatures;
 mod exact;
 mod floats;
 mod large_cross;

@@ -29,6 +29,7 @@ void test_transfer(void);
 void test_points(void);
 void test_distances(void);
 void test_coefficients(void);
+void test_curvature(void);
 void test_ratios(void);
 void test_exchange(void);
 void test_choices(void);

@@ -57,6 +57,7 @@ int main(void)
     test_points();
     test_distances();
     test_coefficients();
+    test_curvature();
     test_ratios();
     test_exchange();
     test_choices();

@@ -251,6 +251,7 @@ int main(void)
     walk_distances();
     walk_scaling();
     walk_coefficients();
+    walk_curvature();
     walk_ratios();
     walk_exchange();
     walk_choices();

@@ -87,6 +87,7 @@ void walk_points(void);
 void walk_distances(void);
 void walk_scaling(void);
 void walk_coefficients(void);
+void walk_curvature(void);
 void walk_ratios(void);
 void walk_exchange(void);
 void walk_choices(void);

@@ -100,6 +100,7 @@ static void replay_case(Case c)
     case 10: replay_aca(c); break;
     case 11: replay_ratios(c); break;
     case 12: replay_reference(c); break;
+    case 13: case 14: replay_curvature(c); break;
     default: printf("unknown kind %u\n", c.kind);
     }
 }

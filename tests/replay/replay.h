@@ -39,6 +39,7 @@ void replay_points(Case c);
 void replay_coefficients(Case c);
 void replay_ratios(Case c);
 void replay_reference(Case c);
+void replay_curvature(Case c);
 void replay_choices(Case c);
 void replay_aca(Case c);
 

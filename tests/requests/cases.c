@@ -247,6 +247,8 @@ static Answer *answer_of(const char *file)
         {"e10_words", answer_e10_words},
         {"e11_nodes", answer_e11_nodes},
         {"e11_turn", answer_e11_turn},
+        {"e13_polynomials", answer_e13_polynomials},
+        {"e13_curvature", answer_e13_curvature},
     };
     for (size_t i = 0; i < sizeof all / sizeof all[0]; i++) {
         if (strcmp(all[i].file, file) == 0) {

@@ -58,6 +58,8 @@ Answer answer_e09_outside;
 Answer answer_e10_words;
 Answer answer_e11_nodes;
 Answer answer_e11_turn;
+Answer answer_e13_polynomials;
+Answer answer_e13_curvature;
 
 /* The call of a case of E4, E8 or E10: the floats of its report, or null where it is refused. */
 const double *answer_cross(void);

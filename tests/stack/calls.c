@@ -21,10 +21,11 @@ static void expect(bool holds, const char *call)
 static size_t three[3], four[4], two[2], one[1];
 static int32_t vector[3];
 static uint16_t table[N], row_list[LINE], column_list[LINE];
-static double nodes[P], polynomials[P * P], derivatives[P * P], operators[2 * P * P];
+static double nodes[P], polynomials[P * P], derivatives[P * P], second_derivatives[P * P], operators[2 * P * P];
 static double input[N], first[N], second[N];
 static double points[N * D], sources[N * D], block[LINE * LINE];
 static double centre[D], places[ROWS * D], values[ROWS * N], gradients[ROWS * N * D], factors[ROWS * P * D], slopes[ROWS * P * D];
+static double curvatures[ROWS * N * 6], bends[ROWS * P * D], room[ROWS * P * 3];
 static double gas[3][N], ratios[ROWS];
 static uint8_t answers[ROWS], mask[LINE], text[TEXT];
 static double u[LINE * LINE], v[LINE * LINE], row[LINE], column[LINE], numbers[2];
@@ -69,6 +70,12 @@ static void evaluate_polynomials(void)
 {
     expect(bbfmm_evaluate_chebyshev_polynomials(P, P, nodes, P, true, polynomials, P * P, derivatives, P * P) == 0,
         "bbfmm_evaluate_chebyshev_polynomials");
+}
+
+static void evaluate_second(void)
+{
+    expect(bbfmm_evaluate_second_derivatives(P, P, nodes, P, polynomials, P * P, derivatives, P * P, second_derivatives, P * P) == 0,
+        "bbfmm_evaluate_second_derivatives");
 }
 
 static void get_operators(void)
@@ -126,6 +133,13 @@ static void get_coefficients(void)
     expect(bbfmm_get_approximation_coefficients(D, P, ROWS, true, 2, polynomials, P * P, places, ROWS * D, values, ROWS * N, gradients,
                ROWS * N * D, factors, ROWS * P * D, slopes, ROWS * P * D) == 0,
         "bbfmm_get_approximation_coefficients");
+}
+
+static void get_curvature(void)
+{
+    expect(bbfmm_get_curvature_coefficients(D, P, ROWS, 2, polynomials, P * P, places, ROWS * D, curvatures, ROWS * N * 6, factors,
+               ROWS * P * D, slopes, ROWS * P * D, bends, ROWS * P * D, room, ROWS * P * 3) == 0,
+        "bbfmm_get_curvature_coefficients");
 }
 
 static void graham_ratios(void)
@@ -214,6 +228,7 @@ static const Call CALLS[] = {
     {"bbfmm_generate_chebyshev_nodes", generate_nodes, MOST},
     {"bbfmm_generate_node_set", generate_mirror_exact_nodes, MOST},
     {"bbfmm_evaluate_chebyshev_polynomials", evaluate_polynomials, MOST},
+    {"bbfmm_evaluate_second_derivatives", evaluate_second, MOST},
     {"bbfmm_get_m2m_transfer_operators", get_operators, MOST},
     {"bbfmm_apply_cheb_tensor_transfer", apply_transfer, MOST},
     {"bbfmm_generate_chebyshev_target_points", target_points, MOST},
@@ -222,6 +237,7 @@ static const Call CALLS[] = {
     {"bbfmm_sample_distances", sample_distances, MOST},
     {"bbfmm_scale_points", scale_points, MOST},
     {"bbfmm_get_approximation_coefficients", get_coefficients, MOST},
+    {"bbfmm_get_curvature_coefficients", get_curvature, MOST},
     {"bbfmm_graham_ratios", graham_ratios, MOST},
     {"bbfmm_write_block", write_block, MOST},
     {"bbfmm_block_size", block_size, MOST},

@@ -1,11 +1,11 @@
-//! Points scaled into their cell, approximation coefficients at reference coordinates, and the two in turn, which are one call
-//! of the text. The cell lies about the origin and has length 2, so that scaling leaves the points as they are, call after call,
-//! and they are reference coordinates as they come.
+//! Points scaled into their cell, coefficients and curvature at reference coordinates, and scaling and coefficients in turn, which are
+//! one call of the text. The cell lies about the origin and has length 2, so that scaling leaves the points as they are, call after
+//! call, and they are reference coordinates as they come.
 
 use super::{Measure, SHAPES, floats, node_polynomials};
 use crate::chebyshev::get_approximation_coefficients;
 use faer::MatRef;
-use ours::Gradients;
+use ours::{Curvatures, Gradients};
 use std::hint::black_box;
 
 const LENGTH: f64 = 2.0;
@@ -104,6 +104,33 @@ pub fn values(size: usize) -> Measure {
 
 pub fn gradients(size: usize) -> Measure {
     coefficients(size, true)
+}
+
+/// S, S' and S'' of each axis, and the products for each pair of axes. The text has no such call.
+pub fn curvature(size: usize) -> Measure {
+    let shape = Shape::of(size);
+    let Shape { dimension, order, rows } = shape;
+    let columns = order.pow(dimension as u32) * dimension * (dimension + 1) / 2;
+    let (coordinates, (_, polynomials)) = (floats(dimension * rows), node_polynomials(order));
+    let mut curvatures = vec![0.0; columns * rows];
+    let [mut factors, mut slopes, mut bends] = [0.0; 3].map(|zero| vec![zero; dimension * order * rows]);
+    let mut room = vec![0.0; 3 * order * rows];
+    Measure {
+        given: shape.in_words(),
+        floor: columns * rows * (dimension - 1).max(1) + 3 * dimension * order * order * rows,
+        ours: Box::new(move || {
+            let mut lent = Curvatures {
+                curvatures: &mut curvatures,
+                factors: &mut factors,
+                slopes: &mut slopes,
+                bends: &mut bends,
+                room: &mut room,
+            };
+            let coordinates = black_box(&coordinates);
+            ours::get_curvature_coefficients(dimension, order, LENGTH, &polynomials, coordinates, &mut lent).expect("lengths")
+        }),
+        text: None,
+    }
 }
 
 fn text(shape: Shape, with_gradients: bool) -> Box<dyn FnMut()> {

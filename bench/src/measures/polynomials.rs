@@ -62,6 +62,20 @@ pub fn derivatives(size: usize) -> Measure {
     }
 }
 
+pub fn second_derivatives(size: usize) -> Measure {
+    let (order, rows) = (ORDERS[size], POINTS[size]);
+    let points = super::floats(rows);
+    let [mut tn, mut dtn, mut ddtn] = [0.0; 3].map(|zero| vec![zero; rows * order]);
+    Measure {
+        given: format!("order {order}, {rows} points"),
+        floor: 5 * rows * (order - 2).max(1),
+        ours: Box::new(move || {
+            ours::evaluate_second_derivatives(order, black_box(&points), &mut tn, &mut dtn, &mut ddtn).expect("lengths")
+        }),
+        text: None,
+    }
+}
+
 pub fn operators(size: usize) -> Measure {
     let order = ORDERS[size];
     let (nodes, polynomials) = node_polynomials(order);

@@ -1,4 +1,4 @@
-//! Chebyshev nodes, polynomials and their derivatives.
+//! Chebyshev nodes, polynomials, their derivatives and second derivatives.
 
 use crate::refusal::{Refusal, told};
 use crate::sys;
@@ -98,5 +98,51 @@ pub fn evaluate_chebyshev_polynomials(
         with_derivatives,
         tn,
         dtn,
+    ))
+}
+
+/// The Chebyshev polynomials below the order at points, at most 4,096; their derivatives, and their
+/// second derivatives.
+///
+/// - `points`: P entries, any floats.
+/// - `tn`, `dtn`: P by p each. They become what [`evaluate_chebyshev_polynomials`] leaves there with
+///   derivatives.
+/// - `ddtn`: P by p. Column j becomes the second derivative of T_j at the points.
+///
+/// # Errors
+///
+/// [`Refusal::NoOrder`], [`Refusal::NoCount`] and [`Refusal::WrongLength`].
+///
+/// # Examples
+///
+/// ```
+/// use bbfmm::{Refusal, evaluate_second_derivatives};
+///
+/// // T_2 = 2x^2 - 1 has 4 everywhere, and T_3 = 4x^3 - 3x has 24x.
+/// let [mut tn, mut dtn, mut ddtn] = [[0.0; 4]; 3];
+/// evaluate_second_derivatives(4, &[0.5], &mut tn, &mut dtn, &mut ddtn)?;
+/// assert_eq!(tn, [1.0, 0.5, -0.5, -1.0]);
+/// assert_eq!(dtn, [0.0, 1.0, 2.0, 0.0]);
+/// assert_eq!(ddtn, [0.0, 0.0, 4.0, 12.0]);
+/// assert_eq!(
+///     evaluate_second_derivatives(17, &[0.5], &mut tn, &mut dtn, &mut ddtn),
+///     Err(Refusal::NoOrder)
+/// );
+/// # Ok::<(), Refusal>(())
+/// ```
+pub fn evaluate_second_derivatives(
+    order: usize,
+    points: &[f64],
+    tn: &mut [f64],
+    dtn: &mut [f64],
+    ddtn: &mut [f64],
+) -> Result<(), Refusal> {
+    told(sys::evaluate_second_derivatives(
+        order,
+        points.len(),
+        points,
+        tn,
+        dtn,
+        ddtn,
     ))
 }

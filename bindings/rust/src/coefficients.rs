@@ -5,7 +5,7 @@ use crate::sys;
 
 /// How many rows a matrix with so many entries and columns has. Where it has no columns, or a row is
 /// not whole, the call refuses it, whatever is told of its rows.
-fn rows(entries: usize, columns: usize) -> usize {
+pub(crate) fn rows(entries: usize, columns: usize) -> usize {
     entries.checked_div(columns).unwrap_or(0)
 }
 

@@ -1,7 +1,7 @@
 //! The operators of a black-box fast multipole method, from a library in which every call is proved
 //! to meet its contract: Chebyshev nodes and polynomials, transfer between a block and its
-//! children, turning a block, points, distances, coefficients, Graham's ratio, blocks as Matrix
-//! Market texts, cross approximation.
+//! children, turning a block, points, distances, coefficients of values, gradients and curvature,
+//! Graham's ratio, blocks as Matrix Market texts, cross approximation.
 //!
 //! Each function here is one call of the static library `libbbfmm.a`. It copies nothing, allocates
 //! nothing and keeps nothing between calls, so any thread may call it. It ends for every input,
@@ -44,6 +44,7 @@ mod aca;
 mod chebyshev;
 mod choices;
 mod coefficients;
+mod curvature;
 mod distances;
 mod exchange;
 mod points;
@@ -54,9 +55,13 @@ mod transfer;
 mod turn;
 
 pub use aca::{Buffers, Mode, Report, Stop, aca_partial_pivoting};
-pub use chebyshev::{evaluate_chebyshev_polynomials, generate_chebyshev_nodes, generate_node_set};
+pub use chebyshev::{
+    evaluate_chebyshev_polynomials, evaluate_second_derivatives, generate_chebyshev_nodes,
+    generate_node_set,
+};
 pub use choices::{argmax_masked, calculate_singular_values_cutoff};
 pub use coefficients::{Gradients, get_approximation_coefficients, scale_points};
+pub use curvature::{Curvatures, get_curvature_coefficients};
 pub use distances::{sample_distances, square_root};
 pub use exchange::{Size, TextRefusal, block_size, read_block, write_block};
 pub use points::{generate_chebyshev_source_points, generate_chebyshev_target_points};

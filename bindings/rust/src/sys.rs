@@ -16,6 +16,7 @@
 
 use crate::aca::Buffers;
 use crate::coefficients::Gradients;
+use crate::curvature::Curvatures;
 use crate::ratios::{Cell, Gases};
 
 unsafe extern "C" {
@@ -81,6 +82,19 @@ unsafe extern "C" {
         tn_length: usize,
         dtn: *mut f64,
         dtn_length: usize,
+    ) -> u8;
+
+    fn bbfmm_evaluate_second_derivatives(
+        order: usize,
+        rows: usize,
+        points: *const f64,
+        points_length: usize,
+        tn: *mut f64,
+        tn_length: usize,
+        dtn: *mut f64,
+        dtn_length: usize,
+        ddtn: *mut f64,
+        ddtn_length: usize,
     ) -> u8;
 
     fn bbfmm_get_m2m_transfer_operators(
@@ -174,6 +188,27 @@ unsafe extern "C" {
         factors_length: usize,
         slopes: *mut f64,
         slopes_length: usize,
+    ) -> u8;
+
+    fn bbfmm_get_curvature_coefficients(
+        dimension: usize,
+        order: usize,
+        rows: usize,
+        length: f64,
+        node_polynomials: *const f64,
+        node_polynomials_length: usize,
+        coordinates: *const f64,
+        coordinates_length: usize,
+        curvatures: *mut f64,
+        curvatures_length: usize,
+        factors: *mut f64,
+        factors_length: usize,
+        slopes: *mut f64,
+        slopes_length: usize,
+        bends: *mut f64,
+        bends_length: usize,
+        room: *mut f64,
+        room_length: usize,
     ) -> u8;
 
     fn bbfmm_graham_ratios(
@@ -347,6 +382,32 @@ pub(crate) fn evaluate_chebyshev_polynomials(
             tn.len(),
             dtn.as_mut_ptr(),
             dtn.len(),
+        )
+    }
+}
+
+pub(crate) fn evaluate_second_derivatives(
+    order: usize,
+    rows: usize,
+    points: &[f64],
+    tn: &mut [f64],
+    dtn: &mut [f64],
+    ddtn: &mut [f64],
+) -> u8 {
+    // SAFETY: four slices by their pointers and lengths. `points` is only read; the other three are
+    // borrowed mutably, so they overlap nothing.
+    unsafe {
+        bbfmm_evaluate_second_derivatives(
+            order,
+            rows,
+            points.as_ptr(),
+            points.len(),
+            tn.as_mut_ptr(),
+            tn.len(),
+            dtn.as_mut_ptr(),
+            dtn.len(),
+            ddtn.as_mut_ptr(),
+            ddtn.len(),
         )
     }
 }
@@ -541,6 +602,41 @@ pub(crate) fn get_approximation_coefficients(
             factors.len(),
             wanted.slopes.as_mut_ptr(),
             wanted.slopes.len(),
+        )
+    }
+}
+
+pub(crate) fn get_curvature_coefficients(
+    dimension: usize,
+    order: usize,
+    rows: usize,
+    length: f64,
+    node_polynomials: &[f64],
+    coordinates: &[f64],
+    lent: &mut Curvatures<'_>,
+) -> u8 {
+    // SAFETY: seven slices by their pointers and lengths. The first two are only read and may be the
+    // same; the five of `lent` are borrowed mutably, so they overlap nothing.
+    unsafe {
+        bbfmm_get_curvature_coefficients(
+            dimension,
+            order,
+            rows,
+            length,
+            node_polynomials.as_ptr(),
+            node_polynomials.len(),
+            coordinates.as_ptr(),
+            coordinates.len(),
+            lent.curvatures.as_mut_ptr(),
+            lent.curvatures.len(),
+            lent.factors.as_mut_ptr(),
+            lent.factors.len(),
+            lent.slopes.as_mut_ptr(),
+            lent.slopes.len(),
+            lent.bends.as_mut_ptr(),
+            lent.bends.len(),
+            lent.room.as_mut_ptr(),
+            lent.room.len(),
         )
     }
 }

@@ -18,7 +18,7 @@ use Rattle.common.proofs.Sums.{sums-cong}
 use Rattle.common.specs.Matrices.{matrix}
 use Rattle.chebyshev.specs.Polynomials.{atPoints}
 use Rattle.axes.specs.Axes.{onAxes}
-use Rattle.axes.specs.Working.{sumOf}
+use Rattle.axes.specs.Axes.{sumOf}
 
 -- the n entries of a list from place `at` on, as they are lent
 abbrev pub part : (list : List Float) (at n : ℕ) → List Float

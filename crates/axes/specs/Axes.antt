@@ -4,8 +4,8 @@ use mathlib.Core.Bool.{Bool}
 use mathlib.Core.List.{List}
 use Prim.Native.Nat.{ℕ, _*_, _/_, _%_, _≤_}
 use lib.Ieee.{Float}
-use Rattle.common.specs.Floats.{minus, times, over, one₆₄, two₆₄, float, inner}
-use Rattle.common.specs.Matrices.{matrix}
+use Rattle.common.specs.Floats.{minus, times, over, one₆₄, two₆₄, float, inner, sums}
+use Rattle.common.specs.Matrices.{cell, matrix}
 use Rattle.common.specs.Refusals.{Shape, mostPoints, sizeIf}
 use Rattle.chebyshev.specs.Polynomials.{T, T′}
 
@@ -26,6 +26,19 @@ S′ p side polynomials n x = slopeOf p side (inner p (λ k. T′ k x) (matrix p
 -- one of them on all axes, at reference coordinates x i a: column a*p + n is node n of axis a
 abbrev pub onAxes : (f : (n : ℕ) → Float → Float) → (p : ℕ) → (x : (i a : ℕ) → Float) → (i column : ℕ) → Float
 onAxes f p x i c = f (c % p) (x i (c / p))
+
+-- THE SUMS before they are finished
+
+-- row i of the product of polynomials at P points, column by column, with those at node n: its term k, and the sum
+abbrev pub termOf : (p P : ℕ) → (columns polynomials : List Float) → (n i k : ℕ) → Float
+termOf p P columns polynomials n i k = times (matrix P columns i k) (matrix p polynomials n k)
+
+abbrev pub sumOf : (p P : ℕ) → (columns polynomials : List Float) → (i n : ℕ) → Float
+sumOf p P columns polynomials i n = sums p (termOf p P columns polynomials n i)
+
+-- all of them, one column a node, by their places
+abbrev pub sumsOf : (p P : ℕ) → (columns polynomials : List Float) → (k : ℕ) → Float
+sumsOf p P columns polynomials = cell P (sumOf p P columns polynomials)
 
 -- The lengths with which S and S' of all axes are filled: of points, node polynomials, room to work in, factors and slopes.
 pub record AxesFit (D p P : ℕ) (with : Bool) (n t v g f d : ℕ) : Type 0 where

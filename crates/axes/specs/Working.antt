@@ -5,20 +5,8 @@ use mathlib.Core.List.{List}
 use Prim.Native.Nat.{ℕ, _+_, _*_, _≤_}
 use lib.Ieee.{Float, nan}
 use lib.ListN.{getD}
-use Rattle.common.specs.Floats.{times, sums}
-use Rattle.common.specs.Matrices.{cell, matrix}
+use Rattle.common.specs.Matrices.{cell}
 use Rattle.common.specs.Refusals.{mostPoints, sizeIf}
-
--- row i of the product of polynomials at P points, column by column, with those at node n: its term k, and the sum
-abbrev pub termOf : (p P : ℕ) → (columns polynomials : List Float) → (n i k : ℕ) → Float
-termOf p P columns polynomials n i k = times (matrix P columns i k) (matrix p polynomials n k)
-
-abbrev pub sumOf : (p P : ℕ) → (columns polynomials : List Float) → (i n : ℕ) → Float
-sumOf p P columns polynomials i n = sums p (termOf p P columns polynomials n i)
-
--- all of them, one column a node, by their places
-abbrev pub sumsOf : (p P : ℕ) → (columns polynomials : List Float) → (k : ℕ) → Float
-sumsOf p P columns polynomials = cell P (sumOf p P columns polynomials)
 
 -- f n at each of the points, one column a node, by their places
 abbrev pub atNodes : (f : (n : ℕ) → Float → Float) → (P : ℕ) → (points : List Float) → (k : ℕ) → Float

@@ -7,8 +7,8 @@ ghost use lib.Ieee.{nan};
 ghost use lib.ListN.{length, getD};
 ghost use Rattle.common.specs.Lists.{stretch};
 ghost use Rattle.common.specs.Matrices.{matrix, columnMajor};
-ghost use Rattle.axes.specs.Axes.{factorOf, slopeOf, S, S′, onAxes, AxesFit};
-ghost use Rattle.axes.specs.Working.{sumOf, sumsOf, atNodes, AxisFit};
+ghost use Rattle.axes.specs.Axes.{factorOf, slopeOf, S, S′, onAxes, sumOf, sumsOf, AxesFit};
+ghost use Rattle.axes.specs.Working.{atNodes, AxisFit};
 
 // The cell that the points lie in: its dimension, how many nodes it has an axis, its side, and how many points lie in it.
 pub struct Cell {
@@ -46,7 +46,7 @@ fn sum_column(
 }
 
 // The sums of all nodes' columns, from place `at` on.
-fn sum_columns(
+pub fn sum_columns(
     order: usize,
     rows: usize,
     polynomials: &[f64],
@@ -69,7 +69,7 @@ fn sum_columns(
 }
 
 // Sums become S.
-fn finish_factors(order: usize, count: usize, at: usize, factors: &mut [f64])
+pub fn finish_factors(order: usize, count: usize, at: usize, factors: &mut [f64])
     requires { ⌜ (order ≤ 16) × (at + count ≤ length (now factors)) ⌝ }
     ensures { λ _. ⌜ now (factors .exit) ≡
         stretch at count (λ k. factorOf order (getD (now (factors .entry)) (at + k) nan)) (now (factors .entry)) ⌝ }
@@ -83,7 +83,7 @@ fn finish_factors(order: usize, count: usize, at: usize, factors: &mut [f64])
 }
 
 // Sums become S'.
-fn finish_slopes(order: usize, side: f64, count: usize, at: usize, slopes: &mut [f64])
+pub fn finish_slopes(order: usize, side: f64, count: usize, at: usize, slopes: &mut [f64])
     requires { ⌜ (order ≤ 16) × (at + count ≤ length (now slopes)) ⌝ }
     ensures { λ _. ⌜ now (slopes .exit) ≡
         stretch at count (λ k. slopeOf order side (getD (now (slopes .entry)) (at + k) nan)) (now (slopes .entry)) ⌝ }

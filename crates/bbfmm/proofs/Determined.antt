@@ -12,6 +12,7 @@ use Rattle.turn.specs.Tables.{tableCall}
 use Rattle.nodes.specs.Nodes.{nodesCall}
 use Rattle.nodes.specs.Sets.{setCall}
 use Rattle.chebyshev.specs.Polynomials.{polynomialsCall}
+use Rattle.chebyshev.specs.Second as second
 use Rattle.operators.specs.Operators.{operatorsCall}
 use Rattle.transfer.specs.Tensor.{transferCall}
 use Rattle.points.specs.Points.{targetCall, sourceCall}
@@ -21,6 +22,7 @@ use Rattle.distances.specs.Distances as distances
 use Rattle.coordinates.specs.Scaling.{scaleCall}
 use Rattle.coefficients.specs.Coefficients as coefficients
 use Rattle.coefficients.specs.Pair.{wantedOf}
+use Rattle.curvatures.specs.Curvatures as curvatures
 use Rattle.ratios.specs.Ratios as ratios
 use Rattle.aca_steps.specs.Memories.{Memory}
 use Rattle.bbfmm.specs.Exchanged.{sizeTold, readTold, writeTold}
@@ -64,6 +66,11 @@ module _ (order rows : ℕ) (with : Bool) (points tn dtn : List Float) (r r' : �
   bbfmm-evaluate-chebyshev-polynomials-determined : r ≡ polynomialsCall order rows with points tn dtn →
       r' ≡ polynomialsCall order rows with points tn dtn → r ≡ r'
   bbfmm-evaluate-chebyshev-polynomials-determined = coincide r r' (polynomialsCall order rows with points tn dtn)
+
+module _ (order rows : ℕ) (points : List Float) (lent : second.Memory) (r r' : ℕ × second.Memory) where
+  bbfmm-evaluate-second-derivatives-determined : r ≡ second.secondCall order rows points lent →
+      r' ≡ second.secondCall order rows points lent → r ≡ r'
+  bbfmm-evaluate-second-derivatives-determined = coincide r r' (second.secondCall order rows points lent)
 
 -- TRANSFER
 
@@ -115,6 +122,13 @@ module _ (dimension order rows : ℕ) (with : Bool) (side : Float) (polynomials 
       r' ≡ coefficients.coefficientsCall dimension order rows (wantedOf with side) polynomials coordinates lent → r ≡ r'
   bbfmm-get-approximation-coefficients-determined =
       coincide r r' (coefficients.coefficientsCall dimension order rows (wantedOf with side) polynomials coordinates lent)
+
+module _ (dimension order rows : ℕ) (side : Float) (polynomials coordinates : List Float) (lent : curvatures.Memory)
+    (r r' : ℕ × curvatures.Memory) where
+  bbfmm-get-curvature-coefficients-determined : r ≡ curvatures.curvatureCall dimension order rows side polynomials coordinates lent →
+      r' ≡ curvatures.curvatureCall dimension order rows side polynomials coordinates lent → r ≡ r'
+  bbfmm-get-curvature-coefficients-determined =
+      coincide r r' (curvatures.curvatureCall dimension order rows side polynomials coordinates lent)
 
 module _ (dimension order rows : ℕ) (side floor : Float) (centre polynomials carbonMonoxide nitrogen oxygen : List Float)
     (lent : ratios.Memory) (r r' : ℕ × ratios.Memory) where

@@ -3,7 +3,9 @@ ghost use mathlib.Core.Path.{_≡_};
 ghost use Rattle.nodes.specs.Nodes.{nodesCall};
 ghost use Rattle.nodes.specs.Sets.{setCall};
 ghost use Rattle.chebyshev.specs.Polynomials.{polynomialsCall};
+ghost use Rattle.chebyshev.specs.Second.{secondCall};
 use chebyshev::evaluate_chebyshev_polynomials;
+use chebyshev::evaluate_second_derivatives;
 use nodes::generate_chebyshev_nodes;
 use nodes::generate_node_set;
 
@@ -37,4 +39,20 @@ pub extern "C" fn bbfmm_evaluate_chebyshev_polynomials(
         polynomialsCall order rows «with_derivatives» (now (points .entry)) (now (tn .entry)) (now (dtn .entry)) ⌝ }
 {
     evaluate_chebyshev_polynomials(order, rows, points, with_derivatives, tn, dtn)
+}
+
+// T, T' and T'' at each point: a row a point, a column a polynomial.
+#[no_mangle]
+pub extern "C" fn bbfmm_evaluate_second_derivatives(
+    order: usize,
+    rows: usize,
+    points: &[f64],
+    tn: &mut [f64],
+    dtn: &mut [f64],
+    ddtn: &mut [f64],
+) -> u8
+    ensures { λ r. ⌜ (r, (now (tn .exit), now (dtn .exit), now (ddtn .exit))) ≡
+        secondCall order rows (now (points .entry)) (now (tn .entry), now (dtn .entry), now (ddtn .entry)) ⌝ }
+{
+    evaluate_second_derivatives(order, rows, points, tn, dtn, ddtn)
 }

@@ -4,6 +4,7 @@ mod answers;
 mod chebyshev_calls;
 mod choices_calls;
 mod coefficients_calls;
+mod curvatures_calls;
 mod distances_calls;
 mod exchange_calls;
 mod points_calls;

@@ -53,14 +53,14 @@ module _ (rows : ℕ) where
 
   -- what stands there, once all before place `at` is filled
   module _ (f : ℕ → ℕ → Float) (l : List Float) (j i at : ℕ) (h : i < rows) where
-    back-one : at ≡ suc j * rows → getD (stretch 0 at (cell rows f) l) (at - rows + i) nan ≡ f i j
+    pub back-one : at ≡ suc j * rows → getD (stretch 0 at (cell rows f) l) (at - rows + i) nan ≡ f i j
     back-one e =
         let place = place-one j i at e in
         let e' : at ≡ (j + 1) * rows = rw (add-one j) e in
         fill-read at (cell rows f) l (at - rows + i) nan (let more = next-column j rows in omega arith) ∙ ap (cell rows f) place
         ∙ cell-at rows f i j h
 
-    back-two : at ≡ suc (suc j) * rows → getD (stretch 0 at (cell rows f) l) (at - rows - rows + i) nan ≡ f i j
+    pub back-two : at ≡ suc (suc j) * rows → getD (stretch 0 at (cell rows f) l) (at - rows - rows + i) nan ≡ f i j
     back-two e =
         let some = two-before (suc (suc j)) rows at e (λ z. omega arith) (λ z. omega arith) in
         fill-read at (cell rows f) l (at - rows - rows + i) nan (omega arith) ∙ ap (cell rows f) (place-two j i at e) ∙ cell-at rows f i j h

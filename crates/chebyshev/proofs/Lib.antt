@@ -1,3 +1,4 @@
 pub mod Columns
 pub mod Calls
+pub mod Seconds
 pub mod Determined

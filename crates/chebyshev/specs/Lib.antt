@@ -1,2 +1,3 @@
 pub mod Polynomials
+pub mod Second
 pub mod Working

@@ -5,6 +5,7 @@ use lib.Ieee.{Float, nan}
 use lib.ListN.{getD}
 use Rattle.common.specs.Floats.{zero₆₄, one₆₄}
 use Rattle.chebyshev.specs.Polynomials.{nextT, nextT′}
+use Rattle.chebyshev.specs.Second.{nextT″}
 
 -- A COLUMN of a recurrence, by its number: the first, the second, and each later one from the two before it
 unfoldable pub columnOf : (first second later : ℕ → Float) → (j : ℕ) → ℕ → Float
@@ -24,3 +25,9 @@ columnT j P x v at = columnOf (λ i. one₆₄) (λ i. getD x i nan) (laterT P x
 
 abbrev pub columnT′ : (j rows : ℕ) → (points values slopes : List Float) → (at : ℕ) → ℕ → Float
 columnT′ j P x v d at = columnOf (λ i. zero₆₄) (λ i. one₆₄) (laterT′ P x v d at) j
+
+abbrev pub laterT″ : (rows : ℕ) → (points slopes bends : List Float) → (at i : ℕ) → Float
+laterT″ P x d s at i = nextT″ (getD x i nan) (getD d (at - P + i) nan) (getD s (at - P + i) nan) (getD s (at - P - P + i) nan)
+
+abbrev pub columnT″ : (j rows : ℕ) → (points slopes bends : List Float) → (at : ℕ) → ℕ → Float
+columnT″ j P x d s at = columnOf (λ i. zero₆₄) (λ i. zero₆₄) (laterT″ P x d s at) j

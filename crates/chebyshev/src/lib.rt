@@ -1,4 +1,6 @@
-// Chebyshev polynomials and their derivatives.
+// Chebyshev polynomials and their first two derivatives.
 mod polynomials;
+mod second;
 
 pub use polynomials::evaluate_chebyshev_polynomials;
+pub use second::evaluate_second_derivatives;

@@ -54,7 +54,14 @@ fn polynomial_column(j: usize, rows: usize, points: &[f64], at: usize, tn: &mut 
 }
 
 // Column j of T and of T', at place `at`.
-fn both_columns(j: usize, rows: usize, points: &[f64], at: usize, tn: &mut [f64], dtn: &mut [f64])
+pub(crate) fn both_columns(
+    j: usize,
+    rows: usize,
+    points: &[f64],
+    at: usize,
+    tn: &mut [f64],
+    dtn: &mut [f64],
+)
     requires { ⌜ (length (now points) ≡ rows) × (at ≡ j * rows) × (at + rows ≤ length (now tn)) × (at + rows ≤ length (now dtn)) ⌝ }
     ensures { λ _. ⌜ (now (tn .exit) ≡ stretch at rows (columnT j rows (now (points .entry)) (now (tn .entry)) at) (now (tn .entry))) ×
         (now (dtn .exit) ≡
@@ -99,7 +106,7 @@ fn fill_both(order: usize, rows: usize, points: &[f64], tn: &mut [f64], dtn: &mu
 }
 
 // The lowest refusal, or 0. A product of counts is made once they are in range.
-fn polynomials_number(
+pub(crate) fn polynomials_number(
     order: usize,
     rows: usize,
     with_derivatives: bool,

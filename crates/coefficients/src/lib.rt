@@ -1,4 +1,5 @@
-// What each node of a cell counts for at points in the cell: coefficients of values, and of gradients.
+// What each node of a cell counts for at points in the cell: coefficients of values, of gradients and of
+// curvatures, which stand in `curvatures`.
 mod call;
 mod columns;
 mod limits;
@@ -8,6 +9,7 @@ pub use axes::Cell;
 pub use call::get_approximation_coefficients;
 pub use coordinates::scale_points;
 pub use coordinates::scaling_number;
+pub use curvatures::get_curvature_coefficients;
 pub use limits::coefficients_number;
 pub use wanted::Wanted;
 

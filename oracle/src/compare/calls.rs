@@ -24,6 +24,8 @@ pub enum Call {
     Air,
     Coordinates,
     GradientsAnywhere,
+    SecondDerivatives,
+    Curvature,
 }
 
 /// Each call, the name that its cases are counted under, and what the count is divided by for it.
@@ -35,7 +37,7 @@ pub enum Call {
 /// cell go through both, and coordinates anywhere through the second alone.
 ///
 /// A new call stands last, so that a seed still draws the same for the others.
-pub const CALLS: [(Call, &str, usize); 18] = [
+pub const CALLS: [(Call, &str, usize); 20] = [
     (Call::Polynomials, "polynomials", 2),
     (Call::Derivatives, "polynomials with derivatives", 2),
     (Call::Operators, "operators", 1),
@@ -58,6 +60,8 @@ pub const CALLS: [(Call, &str, usize); 18] = [
         "coefficients with gradients, coordinates anywhere",
         4,
     ),
+    (Call::SecondDerivatives, "second derivatives", 2),
+    (Call::Curvature, "curvature, coordinates anywhere", 4),
 ];
 
 impl Call {
@@ -66,8 +70,8 @@ impl Call {
         matches!(self, Self::Restart)
     }
 
-    /// Draws a case, and adds it with the answer of the text, or in restart mode and for ratios of our own
-    /// rule.
+    /// Draws a case, and adds it with the answer of the text, or of our own rule: in restart mode, for
+    /// ratios, and for second derivatives and curvature.
     pub fn ask(self, random: &mut Random, stream: &mut Stream) -> Result<(), String> {
         match self {
             Self::Polynomials => cases::polynomials(random, stream, false),
@@ -88,6 +92,8 @@ impl Call {
             Self::Air => maps::air(random, stream),
             Self::Coordinates => cases::coordinates(random, stream, false),
             Self::GradientsAnywhere => cases::coordinates(random, stream, true),
+            Self::SecondDerivatives => cases::second_derivatives(random, stream),
+            Self::Curvature => cases::curvature(random, stream),
         }
         Ok(())
     }

@@ -7,7 +7,7 @@ use crate::points::{ask_sources, ask_targets};
 use crate::polynomials::{MOST_POINTS, ask_polynomials};
 use crate::random::Random;
 use crate::transfers::ask_transfer;
-use crate::{coefficients, operators};
+use crate::{coefficients, curvatures, operators};
 use oracle::chebyshev::reach::{Block, Cell};
 
 /// The most coefficients that the replay has room for, and the most entries of a list.
@@ -19,6 +19,12 @@ pub fn polynomials(random: &mut Random, stream: &mut Stream, with_derivatives: b
     let count = draw::size(random, MOST_POINTS);
     let points = draw::floats(random, count);
     ask_polynomials(stream, order, with_derivatives, &points);
+}
+
+pub fn second_derivatives(random: &mut Random, stream: &mut Stream) {
+    let order = draw::order(random, 1);
+    let count = draw::size(random, MOST_POINTS);
+    curvatures::ask_second_derivatives(stream, order, &draw::floats(random, count));
 }
 
 pub fn operators(random: &mut Random, stream: &mut Stream) {
@@ -113,6 +119,17 @@ pub fn coordinates(random: &mut Random, stream: &mut Stream, with_gradients: boo
     }
     coefficients::keep_finite(cell.length, &cell.centre, &mut cell.points);
     coefficients::ask_at_coordinates(stream, &cell);
+}
+
+/// Curvature at coordinates in the cell, or anywhere.
+pub fn curvature(random: &mut Random, stream: &mut Stream) {
+    let mut cell = cell(random, true);
+    let count = cell.points.len();
+    cell.points = match random.below(2) {
+        0 => random.units(count),
+        _ => draw::finite_floats(random, count),
+    };
+    curvatures::ask(stream, &cell);
 }
 
 /// A mask of ones only, of zeros only, of as many of each, or of few ones.

@@ -8,11 +8,11 @@ use bbfmm::Cell;
 
 use crate::draw::Draw;
 use crate::held::Tally;
-pub use held::points;
-use held::{asked_is_ruled, coordinates, drawn, scaling_is_ruled};
+pub use held::{coordinates, points};
+use held::{asked_is_ruled, drawn, scaling_is_ruled};
 
 /// A small cell, now and then with a shape that is refused.
-fn small_cell(draw: &mut Draw) -> Cell {
+pub fn small_cell(draw: &mut Draw) -> Cell {
     let dimension = draw.number(1..=3);
     let most = [16, 6, 3][dimension.clamp(1, 3) - 1];
     let order = if draw.one_in(16) {
@@ -47,7 +47,7 @@ const LARGE: [(usize, usize, usize); 8] = [
 ];
 
 /// Six cells of each large shape.
-fn large_cells(draw: &mut Draw) -> Vec<Cell> {
+pub fn large_cells(draw: &mut Draw) -> Vec<Cell> {
     let mut cell = |(dimension, order, rows): (usize, usize, usize)| Cell {
         dimension,
         order,

@@ -8,6 +8,7 @@ mod chebyshev;
 mod choices;
 mod coefficients;
 mod cross;
+mod curvature;
 mod distances;
 mod draw;
 mod exchange;

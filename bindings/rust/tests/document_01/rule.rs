@@ -6,6 +6,7 @@ pub mod chebyshev;
 pub mod choices;
 pub mod coefficients;
 pub mod cross;
+pub mod curvature;
 pub mod distances;
 pub mod exchange;
 pub mod points;

@@ -10,7 +10,7 @@ use Rattle.common.specs.Lists.{stretch}
 use Rattle.common.specs.Floats.{sums}
 use Rattle.common.proofs.Matrices.{next-column, column-fits}
 use Rattle.common.proofs.Sums.{adding-none, adding-next, adding-all}
-use Rattle.axes.specs.Working.{termOf}
+use Rattle.axes.specs.Axes.{termOf}
 use Rattle.axes.proofs.sum_column.Statement.{statement}
 use Rattle.axes.proofs.sum_column.Tie as tie
 

@@ -7,7 +7,7 @@ use lib.ListN.{length}
 use Rattle.common.specs.Matrices.{cell}
 use Rattle.common.proofs.Steps.{Stepping, stepping-none, stepping-fits, stepping-more, stepping-done}
 use Rattle.common.proofs.Matrices.{cell-at}
-use Rattle.axes.specs.Working.{sumOf}
+use Rattle.axes.specs.Axes.{sumOf}
 use Rattle.axes.proofs.sum_columns.Statement.{statement}
 use Rattle.axes.proofs.sum_columns.Tie as tie
 

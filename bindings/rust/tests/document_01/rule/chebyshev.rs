@@ -30,6 +30,17 @@ pub fn derivatives(order: usize, x: f64) -> Vec<f64> {
     d
 }
 
+/// T''_0 to T''_(p-1) at a place.
+pub fn second_derivatives(order: usize, x: f64) -> Vec<f64> {
+    let d = derivatives(order, x);
+    let mut dd = vec![0.0, 0.0];
+    for j in 2..order {
+        dd.push(((4.0 * d[j - 1]) + ((2.0 * x) * dd[j - 1])) - dd[j - 2]);
+    }
+    dd.truncate(order);
+    dd
+}
+
 /// A matrix with a row for each list, column-major.
 fn columns(width: usize, rows: &[Vec<f64>]) -> Vec<f64> {
     let column = |j: usize| rows.iter().map(move |row| row[j]);
@@ -50,14 +61,33 @@ pub fn evaluate(
         (3, points.len() > 4096),
         bad_order(order),
     ])?;
-    let at_points = |rule: fn(usize, f64) -> Vec<f64>| {
-        let rows: Vec<_> = points.iter().map(|&x| rule(order, x)).collect();
-        columns(order, &rows)
-    };
     let slopes = if with_derivatives {
-        at_points(derivatives)
+        at_points(derivatives, order, points)
     } else {
         vec![]
     };
-    Ok([at_points(polynomials), slopes])
+    Ok([at_points(polynomials, order, points), slopes])
+}
+
+/// A rule at each point, a row a point.
+pub fn at_points(rule: fn(usize, f64) -> Vec<f64>, order: usize, points: &[f64]) -> Vec<f64> {
+    let rows: Vec<_> = points.iter().map(|&x| rule(order, x)).collect();
+    columns(order, &rows)
+}
+
+/// T, T' and T'' at the points.
+pub fn evaluate_second(
+    order: usize,
+    points: &[f64],
+    lent: &[Vec<f64>; 3],
+) -> Result<[Vec<f64>; 3], u8> {
+    let bad = |list: &Vec<f64>| bad_length(list, &[points.len(), order]);
+    refusal(&[
+        bad(&lent[0]),
+        bad(&lent[1]),
+        bad(&lent[2]),
+        (3, points.len() > 4096),
+        bad_order(order),
+    ])?;
+    Ok([polynomials, derivatives, second_derivatives].map(|rule| at_points(rule, order, points)))
 }

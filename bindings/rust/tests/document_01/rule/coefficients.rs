@@ -7,7 +7,7 @@ use super::{
 };
 
 /// The most points of a call.
-const MOST_POINTS: usize = 4096;
+pub(super) const MOST_POINTS: usize = 4096;
 
 /// How many whole rows of D entries a list has.
 pub fn rows_of(list: &[f64], dimension: usize) -> usize {
@@ -18,7 +18,7 @@ pub fn rows_of(list: &[f64], dimension: usize) -> usize {
     }
 }
 
-fn not_finite(list: &[f64]) -> bool {
+pub(super) fn not_finite(list: &[f64]) -> bool {
     list.iter().any(|float| !float.is_finite())
 }
 
@@ -76,7 +76,7 @@ pub struct Asked<'a> {
 pub type Lent = [Vec<f64>; 4];
 
 impl Asked<'_> {
-    fn rows(&self) -> usize {
+    pub(super) fn rows(&self) -> usize {
         rows_of(self.coordinates, self.dimension)
     }
 
@@ -107,13 +107,13 @@ impl Asked<'_> {
     }
 
     /// The sum of the products of a list with T of one node.
-    fn sum(&self, list: &[f64], node: usize) -> f64 {
+    pub(super) fn sum(&self, list: &[f64], node: usize) -> f64 {
         let at_node = self.node_polynomials[node..].iter().step_by(self.order);
         dot(list.iter().copied(), at_node.copied())
     }
 
     /// A float for each axis, node of the axis and point, in this order.
-    fn of_axes(&self, rule: impl Fn(f64, usize) -> f64) -> Vec<f64> {
+    pub(super) fn of_axes(&self, rule: impl Fn(f64, usize) -> f64) -> Vec<f64> {
         let mut list = vec![];
         for axis in 0..self.dimension {
             for node in 0..self.order {
@@ -125,7 +125,7 @@ impl Asked<'_> {
     }
 
     /// S = (sum*2 - 1)/p.
-    fn factors(&self) -> Vec<f64> {
+    pub(super) fn factors(&self) -> Vec<f64> {
         self.of_axes(|x, node| {
             let sum = self.sum(&polynomials(self.order, x), node);
             (sum * 2.0 - 1.0) / self.order as f64
@@ -133,7 +133,7 @@ impl Asked<'_> {
     }
 
     /// S' = (sum * (2/p)) * (2/length), with T' at the point.
-    fn slopes(&self, length: f64) -> Vec<f64> {
+    pub(super) fn slopes(&self, length: f64) -> Vec<f64> {
         self.of_axes(|x, node| {
             let sum = self.sum(&derivatives(self.order, x), node);
             (sum * (2.0 / self.order as f64)) * (2.0 / length)
@@ -141,7 +141,7 @@ impl Asked<'_> {
     }
 
     /// A column for each node: at each point the product of these floats, one an axis, from the first on.
-    fn columns(&self, axes: &[(usize, &[f64])]) -> Vec<f64> {
+    pub(super) fn columns(&self, axes: &[(usize, &[f64])]) -> Vec<f64> {
         let mut list = vec![];
         for node in 0..nodes_of_block(self.dimension, self.order) {
             let places = indices(self.dimension, self.order, node);

@@ -1,0 +1,4 @@
+pub mod AxisPairs
+pub mod Products
+pub mod Calls
+pub mod Determined

@@ -1,0 +1,2 @@
+pub mod Curvatures
+pub mod Working

@@ -25,8 +25,10 @@ use Rattle.coefficients.specs.Pair.{wantedOf}
 use Rattle.curvatures.specs.Curvatures as curvatures
 use Rattle.ratios.specs.Ratios as ratios
 use Rattle.aca_steps.specs.Memories.{Memory}
-use Rattle.bbfmm.specs.Exchanged.{sizeTold, readTold, writeTold}
-use Rattle.bbfmm.specs.Told.{lookUpTold, followTold, referenceTold, argmaxTold, cutoffTold, Crossed, crossTold}
+use Rattle.turn_told.specs.Told.{lookUpTold, followTold, referenceTold}
+use Rattle.choices_told.specs.Told.{argmaxTold, cutoffTold}
+use Rattle.aca_told.specs.Told.{Crossed, crossTold}
+use Rattle.exchange_told.specs.Exchanged.{sizeTold, readTold, writeTold}
 
 -- TURNING A BLOCK
 

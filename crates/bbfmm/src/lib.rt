@@ -1,6 +1,5 @@
 // The public calls for programs in C and Rust: numbers and slices in, a refusal's number out. include/bbfmm.h declares them.
 mod aca_calls;
-mod answers;
 mod chebyshev_calls;
 mod choices_calls;
 mod coefficients_calls;

@@ -2,17 +2,12 @@
 ghost use mathlib.Core.Path.{_≡_};
 ghost use Rattle.turn.specs.Tables.{tableCall};
 ghost use Rattle.turn.specs.Turned.{turned, returned};
-ghost use Rattle.bbfmm.specs.Told.{lookUpTold, followTold, referenceTold};
-use crate::answers::with_length;
-use turn::Followed;
-use turn::LookUp;
-use turn::Reference;
-use turn::Vector;
+ghost use Rattle.turn_told.specs.Told.{lookUpTold, followTold, referenceTold};
 use turn::combined_permutation;
-use turn::follow_node;
 use turn::inverse_permutation;
-use turn::look_up;
-use turn::reference_vector;
+use turn_told::follow_node_told;
+use turn_told::look_up_told;
+use turn_told::reference_vector_told;
 
 // The vector (x, y, z): its index, its case, its reference number, and 1 where it is near, else 0.
 #[no_mangle]
@@ -25,21 +20,7 @@ pub extern "C" fn bbfmm_look_up(
 ) -> u8
     ensures { λ r. ⌜ (r, now (answer .exit)) ≡ lookUpTold dimension (x, y, z) (now (answer .entry)) ⌝ }
 {
-    let is_fit = answer.len() == 4;
-    let found = look_up(dimension, Vector(x, y, z));
-    match found {
-        LookUp::Refused(number) => with_length(number, is_fit),
-        LookUp::Found(known) => {
-            if is_fit {
-                answer[0] = known.index;
-                answer[1] = known.case;
-                answer[2] = known.reference;
-                answer[3] = known.near as usize;
-                return 0;
-            }
-            common::WRONG_LENGTH
-        }
-    }
+    look_up_told(dimension, x, y, z, answer)
 }
 
 // Where a node goes under the table of the vector's case, and which node comes to its place.
@@ -55,19 +36,7 @@ pub extern "C" fn bbfmm_follow_node(
 ) -> u8
     ensures { λ r. ⌜ (r, now (answer .exit)) ≡ followTold dimension order (x, y, z) node (now (answer .entry)) ⌝ }
 {
-    let is_fit = answer.len() == 2;
-    let found = follow_node(dimension, order, Vector(x, y, z), node);
-    match found {
-        Followed::Refused(number) => with_length(number, is_fit),
-        Followed::Found(moves) => {
-            if is_fit {
-                answer[0] = moves.image;
-                answer[1] = moves.origin;
-                return 0;
-            }
-            common::WRONG_LENGTH
-        }
-    }
+    follow_node_told(dimension, order, x, y, z, node, answer)
 }
 
 // The three entries of the reference vector with this number.
@@ -75,24 +44,7 @@ pub extern "C" fn bbfmm_follow_node(
 pub extern "C" fn bbfmm_reference_vector(dimension: usize, number: usize, vector: &mut [i32]) -> u8
     ensures { λ r. ⌜ (r, now (vector .exit)) ≡ referenceTold dimension number (now (vector .entry)) ⌝ }
 {
-    let is_fit = vector.len() == 3;
-    let found = reference_vector(dimension, number);
-    match found {
-        Reference::Refused(refused) => with_length(refused, is_fit),
-        Reference::Found(v) => {
-            if is_fit {
-                // Copies: only a whole local can be stored where a signed number lies.
-                let x = v.0;
-                let y = v.1;
-                let z = v.2;
-                vector[0] = x;
-                vector[1] = y;
-                vector[2] = z;
-                return 0;
-            }
-            common::WRONG_LENGTH
-        }
-    }
+    reference_vector_told(dimension, number, vector)
 }
 
 // The table of a case: which node of the turned block each node of the reference block becomes.

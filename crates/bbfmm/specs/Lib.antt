@@ -1,4 +1,0 @@
-pub mod Answers
-pub mod Exchanged
-pub mod Told
-pub mod Working

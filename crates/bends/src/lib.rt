@@ -153,10 +153,12 @@ fn sum_axis(
     ensures { λ _. ⌜ (now (factors .exit) ≡ finishedAt (factorOf (cell .order)) at (cell .order) (cell .rows)
         (between 0 (cell .order * cell .rows) (now (room .entry))) (now («node_polynomials» .entry)) (now (factors .entry))) ×
         (now (slopes .exit) ≡ finishedAt (slopeOf (cell .order) (cell .side)) at (cell .order) (cell .rows)
-        (between (cell .order * cell .rows) (cell .order * cell .rows + cell .order * cell .rows) (now (room .entry))) (now («node_polynomials» .entry)) (now (slopes .entry))) ×
+        (between (cell .order * cell .rows) (cell .order * cell .rows + cell .order * cell .rows) (now (room .entry)))
+        (now («node_polynomials» .entry)) (now (slopes .entry))) ×
         (now (bends .exit) ≡ finishedAt (bendOf (cell .order) (cell .side)) at (cell .order) (cell .rows)
         (between (cell .order * cell .rows + cell .order * cell .rows)
-        (cell .order * cell .rows + cell .order * cell .rows + cell .order * cell .rows) (now (room .entry))) (now («node_polynomials» .entry)) (now (bends .entry))) ⌝ }
+        (cell .order * cell .rows + cell .order * cell .rows + cell .order * cell .rows) (now (room .entry)))
+        (now («node_polynomials» .entry)) (now (bends .entry))) ⌝ }
 {
     let order = cell.order;
     let rows = cell.rows;

@@ -1,5 +1,5 @@
--- The recurrences are right: over polynomials with whole coefficients T' is the derivative of T and T'' that of T', for every order; and the
--- recurrences over whole numbers give the values of these polynomials.
+-- The recurrences are right: over polynomials with whole coefficients T' is the derivative of T and T'' that of T', for every order; and
+-- the recurrences over whole numbers give the values of these polynomials.
 use mathlib.Core.Path.{_≡_}
 use Prim.Native.Nat.{ℕ, zero, suc, _<_}
 use lib.IntN.{ℤ, pos, _+ℤ_, _-ℤ_, _*ℤ_, pow}

@@ -13,7 +13,7 @@ use Rattle.common.specs.Floats.{times}
 use Rattle.common.specs.Refusals.{mostEntries, answer}
 use Rattle.common.proofs.Cases.{equal-and}
 use Rattle.common.proofs.Limits.{left-done, left-refused, passed}
-use Rattle.aca_lines.specs.Flags.{allOn}
+use Rattle.aca_pivots.specs.Flags.{allOn}
 use Rattle.aca_steps.specs.Memories.{Memory, laid, blockOf}
 use Rattle.aca.specs.Runs.{run, listed, stepsOf, begin, report, lengths, fits, acaNumber, start, approximation, call, acaCall}
 use Rattle.aca.specs.Answers.{told}

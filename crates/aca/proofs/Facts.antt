@@ -9,12 +9,12 @@ use native.Mathlib.Omega.{arith}
 use lib.Ieee.{Float}
 use Rattle.common.specs.Floats.{times}
 use Rattle.common.proofs.Cases.{by-eq, not-both}
-use Rattle.aca_steps.specs.Crosses.{Block, most, Found, usedUp, grown, weighed, stored, step}
+use Rattle.aca_progress.specs.Crosses.{Block, most, Found, usedUp, grown, weighed, stored, step}
 use Rattle.aca_steps.specs.Memories.{Memory, laid, blockOf}
-use Rattle.aca_steps.specs.declared.Progress.{Progress}
-use Rattle.aca_steps.specs.declared.Step.{Step}
-use Rattle.aca_steps.specs.declared.Step.the-variants.{More, Stop}
-use Rattle.aca_steps.proofs.Ways.{across, down, term, Ways, by-way, Counts, counts-across, counts-term}
+use Rattle.aca_progress.specs.declared.Progress.{Progress}
+use Rattle.aca_progress.specs.declared.Step.{Step}
+use Rattle.aca_progress.specs.declared.Step.the-variants.{More, Stop}
+use Rattle.aca_progress.proofs.Ways.{across, down, term, Ways, by-way, Counts, counts-across, counts-term}
 use Rattle.aca.specs.Runs.{Finish, finish, followed, run, listed, begin, start, approximation}
 use Rattle.aca.specs.Facts.{Facts, OldFacts, RunFacts, OldRunFacts, NothingRead}
 

@@ -14,12 +14,12 @@ use Rattle.common.specs.Floats.{times}
 use Rattle.common.specs.Tests.{count}
 use Rattle.common.proofs.Cases.{by-bool, by-eq, by-lt, by-last, not-both}
 use Rattle.common.proofs.Tests.{count-less}
-use Rattle.aca_steps.specs.Crosses.{Block, Found, unread, rowRead, columnRead, stored}
+use Rattle.aca_progress.specs.Crosses.{Block, Found, unread, rowRead, columnRead, stored}
 use Rattle.aca_steps.specs.Memories.{Memory, blockOf}
-use Rattle.aca_steps.specs.declared.Progress.{Progress}
-use Rattle.aca_steps.proofs.Chosen.{usable-on}
+use Rattle.aca_progress.specs.declared.Progress.{Progress}
+use Rattle.aca_progress.proofs.Chosen.{usable-on}
 use Rattle.aca_steps.proofs.Marked.{unread-last}
-use Rattle.aca_steps.proofs.Ways.{across, chosen, has, Ways, by-way}
+use Rattle.aca_progress.proofs.Ways.{across, chosen, has, Ways, by-way}
 use Rattle.aca.specs.Runs.{Finish, run, begin, start}
 use Rattle.aca.specs.Facts.{Distinct, RestartFacts, RestartRunFacts}
 use Rattle.aca.proofs.Facts.{Next, Ends, by-run, by-start}

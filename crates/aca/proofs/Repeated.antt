@@ -10,15 +10,16 @@ use lib.ListN.{length, take}
 use lib.Seq.{length-take-le}
 use Rattle.common.proofs.Cases.{by-eq}
 use Rattle.common.proofs.Matrices.{column-fits}
-use Rattle.aca_steps.specs.Crosses.{usedUp, Block, Found, Outcome, step}
+use Rattle.aca_progress.specs.Crosses.{usedUp, Block, Found, Outcome, step}
 use Rattle.aca_steps.specs.Memories.{Memory, laid, blockOf}
-use Rattle.aca_steps.specs.Standing.{standing, Marks, RowsKnown, Ready, made, Stepped}
-use Rattle.aca_steps.specs.declared.Progress.{Progress}
-use Rattle.aca_steps.specs.declared.Reading.{Reading}
-use Rattle.aca_steps.specs.declared.Step.{Step}
-use Rattle.aca_steps.specs.declared.Step.the-variants.{More, Stop}
+use Rattle.aca_progress.specs.Working.{RowsKnown}
+use Rattle.aca_steps.specs.Standing.{standing, Marks, Ready, made, Stepped}
+use Rattle.aca_progress.specs.declared.Progress.{Progress}
+use Rattle.aca_progress.specs.declared.Reading.{Reading}
+use Rattle.aca_progress.specs.declared.Step.{Step}
+use Rattle.aca_progress.specs.declared.Step.the-variants.{More, Stop}
 use Rattle.aca_steps.proofs.Fronts.{upon-upon, take-upon}
-use Rattle.aca_steps.proofs.Ways.{Counts, Took, step-took}
+use Rattle.aca_progress.proofs.Ways.{Counts, Took, step-took}
 use Rattle.aca.specs.Runs.{Finish, finish, followed, run, stepsOf, begin, reported, report, start}
 use Rattle.aca.specs.Working.{Begun, ran, Ran}
 

@@ -11,17 +11,17 @@ use lib.Seq.{getD-at}
 use Rattle.common.specs.Floats.{times, zero₆₄, size}
 use Rattle.common.proofs.Cases.{by-bool, by-eq, by-lt, not-both}
 use Rattle.common.proofs.Orders.{lt-trans, lt-self}
-use Rattle.aca_lines.specs.Facts.{sizeAt}
-use Rattle.aca_lines.specs.Largest.{pivot}
-use Rattle.aca_lines.proofs.Facts.{argmax-facts}
-use Rattle.aca_steps.specs.Crosses.{Block, Found, unread, tiny₆₄, lesser, grown, weighed, step}
+use Rattle.aca_pivots.specs.Facts.{sizeAt}
+use Rattle.aca_pivots.specs.Largest.{pivot}
+use Rattle.aca_pivots.proofs.Facts.{argmax-facts}
+use Rattle.aca_progress.specs.Crosses.{Block, Found, unread, tiny₆₄, lesser, grown, weighed, step}
 use Rattle.aca_steps.specs.Memories.{Memory, blockOf}
-use Rattle.aca_steps.specs.declared.Progress.{Progress}
-use Rattle.aca_steps.specs.declared.Step.{Step}
-use Rattle.aca_steps.specs.declared.Step.the-variants.{More, Stop}
-use Rattle.aca_steps.proofs.Chosen.{tiny-above}
-use Rattle.aca_steps.proofs.Sizes.{below-number, size-number, usable-large}
-use Rattle.aca_steps.proofs.Ways.{across, across-long, chosen, has, term, by-way, stateOf}
+use Rattle.aca_progress.specs.declared.Progress.{Progress}
+use Rattle.aca_progress.specs.declared.Step.{Step}
+use Rattle.aca_progress.specs.declared.Step.the-variants.{More, Stop}
+use Rattle.aca_progress.proofs.Chosen.{tiny-above}
+use Rattle.aca_progress.proofs.Sizes.{below-number, size-number, usable-large}
+use Rattle.aca_progress.proofs.Ways.{across, across-long, chosen, has, term, by-way, stateOf}
 use Rattle.aca.specs.Runs.{followed, run, listed, begin, report, start, approximation}
 use Rattle.aca.specs.Pivots.{ofRow, ofRest, ofRun, acceptedPivots}
 use Rattle.aca.specs.Facts.{Number, Smallest, PivotFacts, RunPivotFacts}

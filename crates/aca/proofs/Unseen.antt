@@ -12,17 +12,17 @@ use Rattle.common.specs.Floats.{times, minus, over, inner, one₆₄}
 use Rattle.common.specs.Matrices.{matrix}
 use Rattle.common.proofs.Cases.{by-bool, by-eq, not-both}
 use Rattle.common.proofs.Fill.{tabulate-cong}
-use Rattle.aca_lines.specs.Largest.{pivot}
+use Rattle.aca_pivots.specs.Largest.{pivot}
 use Rattle.aca_lines.specs.Lines.{residual, multiplied}
-use Rattle.aca_lines.specs.declared.Pivot.{Pivot}
-use Rattle.aca_steps.specs.Crosses.{Block, Found, found, unread, rowRead, columnRead, usable, stored, judged, accepted, tried, step}
-use Rattle.aca_steps.specs.Crosses.{Outcome}
+use Rattle.aca_pivots.specs.declared.Pivot.{Pivot}
+use Rattle.aca_progress.specs.Crosses.{Block, Found, found, unread, rowRead, columnRead, usable, stored, judged, accepted, tried, step}
+use Rattle.aca_progress.specs.Crosses.{Outcome}
 use Rattle.aca_steps.specs.Memories.{Memory, blockOf}
-use Rattle.aca_steps.specs.declared.Progress.{Progress}
-use Rattle.aca_steps.specs.declared.Step.{Step}
-use Rattle.aca_steps.specs.declared.Step.the-variants.{More, Stop}
+use Rattle.aca_progress.specs.declared.Progress.{Progress}
+use Rattle.aca_progress.specs.declared.Step.{Step}
+use Rattle.aca_progress.specs.declared.Step.the-variants.{More, Stop}
 use Rattle.aca_steps.proofs.Marked.{unread-last}
-use Rattle.aca_steps.proofs.Ways.{across, chosen, has}
+use Rattle.aca_progress.proofs.Ways.{across, chosen, has}
 use Rattle.aca.specs.Runs.{followed, run, begin, start, listed, stepsOf, approximation, acaCall}
 use Rattle.aca.specs.Unseen.{SameRow, SameColumn, Agree, Unseen, FilledLate}
 use Rattle.aca.proofs.Facts.{Next, by-run}

@@ -5,15 +5,15 @@ use mathlib.Core.Bool.{cond}
 use mathlib.Core.List.{List}
 use lib.Ieee.{Float, lt, le}
 use Rattle.common.specs.Floats.{times}
-use Rattle.aca_lines.specs.Largest.{pivot}
+use Rattle.aca_pivots.specs.Largest.{pivot}
 use Rattle.aca_lines.specs.Lines.{norm}
-use Rattle.aca_lines.specs.declared.Pivot.{Pivot}
-use Rattle.aca_steps.specs.Crosses.{Block, Found, unread, rowRead, columnRead, weighed, stored, tolerable, spent, usedUp, tiny₆₄}
-use Rattle.aca_steps.specs.Crosses.{Outcome, outcome}
+use Rattle.aca_pivots.specs.declared.Pivot.{Pivot}
+use Rattle.aca_progress.specs.Crosses.{Block, Found, unread, rowRead, columnRead, weighed, stored, tolerable, spent, usedUp, tiny₆₄}
+use Rattle.aca_progress.specs.Crosses.{Outcome, outcome}
 use Rattle.aca_steps.specs.Memories.{Memory, blockOf}
-use Rattle.aca_steps.specs.declared.Progress.{Progress}
-use Rattle.aca_steps.specs.declared.Step.{Step}
-use Rattle.aca_steps.specs.declared.Step.the-variants.{More, Stop}
+use Rattle.aca_progress.specs.declared.Progress.{Progress}
+use Rattle.aca_progress.specs.declared.Step.{Step}
+use Rattle.aca_progress.specs.declared.Step.the-variants.{More, Stop}
 use Rattle.aca.specs.Runs.{Finish, finish, followed, begin, start}
 
 -- a term whose norm is small against the estimate is the last

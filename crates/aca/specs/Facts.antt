@@ -8,10 +8,10 @@ use mathlib.Core.List.{List, _++_}
 use lib.Ieee.{Float, nan, lt, le, isNan}
 use lib.ListN.{length, getD, drop}
 use Rattle.common.specs.Floats.{zero₆₄}
-use Rattle.aca_lines.specs.Facts.{sizeAt}
-use Rattle.aca_steps.specs.Crosses.{Found, unread, tiny₆₄, tolerable, spent, usedUp, allTried}
+use Rattle.aca_pivots.specs.Facts.{sizeAt}
+use Rattle.aca_progress.specs.Crosses.{Found, unread, tiny₆₄, tolerable, spent, usedUp, allTried}
 use Rattle.aca_steps.specs.Memories.{Memory, laid}
-use Rattle.aca_steps.specs.declared.Progress.{Progress}
+use Rattle.aca_progress.specs.declared.Progress.{Progress}
 use Rattle.aca.specs.Runs.{Finish, finish, begin, start, listed, report, approximation}
 use Rattle.aca.specs.Pivots.{acceptedPivots}
 use Rattle.aca.specs.Before as before

@@ -6,12 +6,12 @@ use mathlib.Core.List.{List, [], _∷_, _++_}
 use lib.Ieee.{Float, nan}
 use lib.ListN.{getD}
 use Rattle.common.specs.Floats.{times}
-use Rattle.aca_lines.specs.Largest.{pivot}
-use Rattle.aca_steps.specs.Crosses.{Block, Found, unread, rowRead, usable, step}
+use Rattle.aca_pivots.specs.Largest.{pivot}
+use Rattle.aca_progress.specs.Crosses.{Block, Found, unread, rowRead, usable, step}
 use Rattle.aca_steps.specs.Memories.{Memory, blockOf}
-use Rattle.aca_steps.specs.declared.Progress.{Progress}
-use Rattle.aca_steps.specs.declared.Step.{Step}
-use Rattle.aca_steps.specs.declared.Step.the-variants.{More, Stop}
+use Rattle.aca_progress.specs.declared.Progress.{Progress}
+use Rattle.aca_progress.specs.declared.Step.{Step}
+use Rattle.aca_progress.specs.declared.Step.the-variants.{More, Stop}
 use Rattle.aca.specs.Runs.{listed, stepsOf, begin, start}
 
 -- the pivot of the row that was read last, where it has a usable one

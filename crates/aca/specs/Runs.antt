@@ -8,11 +8,11 @@ use lib.Ieee.{Float}
 use lib.ListN.{length}
 use Rattle.common.specs.Floats.{times, zero₆₄}
 use Rattle.common.specs.Refusals.{noCount, wrongLength, unless, left, mostEntries, answer}
-use Rattle.aca_steps.specs.Crosses.{Block, Found, found, usedUp, step}
+use Rattle.aca_progress.specs.Crosses.{Block, Found, found, usedUp, step}
 use Rattle.aca_steps.specs.Memories.{Memory, laid, blockOf}
-use Rattle.aca_steps.specs.declared.Progress.{Progress}
-use Rattle.aca_steps.specs.declared.Step.{Step}
-use Rattle.aca_steps.specs.declared.Step.the-variants.{More, Stop}
+use Rattle.aca_progress.specs.declared.Progress.{Progress}
+use Rattle.aca_progress.specs.declared.Step.{Step}
+use Rattle.aca_progress.specs.declared.Step.the-variants.{More, Stop}
 use Rattle.aca.specs.declared.Lengths.{Lengths}
 use Rattle.aca.specs.declared.Report.{Report}
 

@@ -7,7 +7,7 @@ use mathlib.Core.List.{List}
 use lib.Ieee.{Float}
 use lib.ListN.{length, getD}
 use Rattle.common.specs.Matrices.{matrix}
-use Rattle.aca_steps.specs.Crosses.{Found}
+use Rattle.aca_progress.specs.Crosses.{Found}
 use Rattle.aca_steps.specs.Memories.{Memory}
 use Rattle.aca.specs.Answers.{told}
 use Rattle.aca.specs.Runs.{approximation, call, acaCall}

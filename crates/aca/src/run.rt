@@ -2,7 +2,7 @@
 ghost use mathlib.Core.Path.{_≡_};
 ghost use lib.ListN.{length};
 ghost use Rattle.aca_steps.specs.Memories.{behind};
-ghost use Rattle.aca_steps.specs.Standing.{RowsKnown};
+ghost use Rattle.aca_progress.specs.Working.{RowsKnown};
 ghost use Rattle.aca.specs.Answers.{told};
 ghost use Rattle.aca.specs.Runs.{reported, stepsOf, call, acaCall};
 ghost use Rattle.aca.specs.Working.{Begun, ran, Ran};
@@ -10,13 +10,13 @@ use crate::Approximation;
 use crate::Lengths;
 use crate::Report;
 use crate::limits::aca_number;
-use aca_lines::Flags;
-use aca_lines::all_on;
-use aca_lines::lowest_on;
-use aca_steps::Progress;
-use aca_steps::Reading;
-use aca_steps::Step;
-use aca_steps::USED_UP;
+use aca_pivots::Flags;
+use aca_pivots::all_on;
+use aca_pivots::lowest_on;
+use aca_progress::Progress;
+use aca_progress::Reading;
+use aca_progress::Step;
+use aca_progress::USED_UP;
 use aca_steps::advance;
 
 fn report(stop: u8, s: Progress, rows_read: usize) -> Report

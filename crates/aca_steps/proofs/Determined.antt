@@ -4,11 +4,11 @@ use mathlib.Core.List.{List}
 use Prim.Native.Nat.{ℕ, _<_}
 use Rattle.common.proofs.Determined.{coincide}
 use Rattle.common.specs.Refusals.{mostEntries}
-use Rattle.aca_lines.specs.Flags.{isOn}
-use Rattle.aca_steps.specs.Crosses.{Outcome}
+use Rattle.aca_pivots.specs.Flags.{isOn}
+use Rattle.aca_progress.specs.Crosses.{Outcome}
 use Rattle.aca_steps.specs.Memories.{Memory}
 use Rattle.aca_steps.specs.Standing.{Stepped}
-use Rattle.aca_steps.specs.declared.Step.{Step}
+use Rattle.aca_progress.specs.declared.Step.{Step}
 
 advance-determined : (low : ℕ) (o : Outcome) (t after after' : Memory) (r r' : Step) (rows rows' columns columns' : List ℕ) →
     Stepped low o t r after rows columns → Stepped low o t r' after' rows' columns' →

@@ -10,14 +10,15 @@ use lib.ListN.{length}
 use Rattle.common.specs.Refusals.{mostEntries}
 use Rattle.common.proofs.Cases.{by-bool}
 use Rattle.common.proofs.Tests.{lowest-cong}
-use Rattle.aca_lines.specs.Flags.{isOn, allOn, cleared}
-use Rattle.aca_lines.specs.Largest.{argmax, pivot}
-use Rattle.aca_lines.specs.declared.Pivot.{Pivot}
-use Rattle.aca_lines.proofs.Largest.{pivot-cong}
-use Rattle.aca_lines.proofs.Unused.{all-on, on-cleared}
-use Rattle.aca_steps.specs.Crosses.{unread, elsewhere, onward, without, judged}
-use Rattle.aca_steps.specs.declared.Progress.{Progress}
-use Rattle.aca_steps.specs.Standing.{Marks, RowsKnown}
+use Rattle.aca_pivots.specs.Flags.{isOn, allOn, cleared}
+use Rattle.aca_pivots.specs.Largest.{argmax, pivot}
+use Rattle.aca_pivots.specs.declared.Pivot.{Pivot}
+use Rattle.aca_pivots.proofs.Largest.{pivot-cong}
+use Rattle.aca_pivots.proofs.Unused.{all-on, on-cleared}
+use Rattle.aca_progress.specs.Crosses.{unread, elsewhere, onward, without, judged}
+use Rattle.aca_progress.specs.declared.Progress.{Progress}
+use Rattle.aca_progress.specs.Working.{RowsKnown}
+use Rattle.aca_steps.specs.Standing.{Marks}
 
 pub unread-last : (l : List ℕ) (x k : ℕ) → unread (l ++ x ∷ []) k ≡ cond (eqb k x) false (unread l k)
 unfolding unread

@@ -9,22 +9,23 @@ use lib.ListN.{length, set, take}
 use Rattle.common.specs.Refusals.{mostEntries}
 use Rattle.common.proofs.Fill.{length-tabulate}
 use Rattle.common.proofs.Matrices.{column-fits}
-use Rattle.aca_lines.specs.Flags.{isOn, cleared}
-use Rattle.aca_lines.specs.Largest.{argmax, pivot}
+use Rattle.aca_pivots.specs.Flags.{isOn, cleared}
+use Rattle.aca_pivots.specs.Largest.{argmax, pivot}
 use Rattle.aca_lines.specs.Lines.{residual, rowLess, columnLess, multiplied, norm, cross}
-use Rattle.aca_lines.specs.declared.Pivot.{Pivot}
-use Rattle.aca_lines.proofs.Largest.{argmax-in}
+use Rattle.aca_pivots.specs.declared.Pivot.{Pivot}
+use Rattle.aca_pivots.proofs.Largest.{argmax-in}
 use Rattle.common.specs.Matrices.{matrix}
-use Rattle.aca_steps.specs.Crosses.{Block, most, Found, found, unread, rowRead, columnRead, noted, grown, weighed, stored, without}
-use Rattle.aca_steps.specs.Crosses.{usable, judged, outcome, accepted, tried, step}
+use Rattle.aca_progress.specs.Crosses.{Block, most, Found, found, unread, rowRead, columnRead, noted, grown, weighed, stored, without}
+use Rattle.aca_progress.specs.Crosses.{usable, judged, outcome, accepted, tried, step}
 use Rattle.aca_steps.specs.Memories.{Memory, memory, laid, blockOf}
-use Rattle.aca_steps.specs.Standing.{standing, Marks, RowsKnown, Ready, made, Stepped}
-use Rattle.aca_steps.specs.Working.{RowFits, usableHere, Lent, TermFits, TermStored}
-use Rattle.aca_steps.specs.declared.Progress.{Progress}
-use Rattle.aca_steps.specs.declared.Reading.{Reading}
-use Rattle.aca_steps.specs.declared.Step.{Step}
+use Rattle.aca_progress.specs.Working.{RowsKnown, usableHere}
+use Rattle.aca_steps.specs.Standing.{standing, Marks, Ready, made, Stepped}
+use Rattle.aca_steps.specs.Working.{RowFits, Lent, TermFits, TermStored}
+use Rattle.aca_progress.specs.declared.Progress.{Progress}
+use Rattle.aca_progress.specs.declared.Reading.{Reading}
+use Rattle.aca_progress.specs.declared.Step.{Step}
 use Rattle.aca_steps.proofs.Fronts.{upon-same, upon-stretch, upon-set}
-use Rattle.aca_steps.proofs.Chosen.{usable-here}
+use Rattle.aca_progress.proofs.Chosen.{usable-here}
 use Rattle.aca_steps.proofs.Marked.{marks-more, known-more, pivot-unread, argmax-unread, without-cong, judged-cong}
 use Rattle.aca_steps.proofs.Terms.{residual-front, cross-front}
 

@@ -13,9 +13,9 @@ use Rattle.common.specs.Matrices.{matrix}
 use Rattle.common.proofs.Fill.{tabulate-cong}
 use Rattle.common.proofs.Sums.{sums-cong}
 use Rattle.aca_lines.specs.Lines.{residual, entry, cross}
-use Rattle.aca_steps.specs.Crosses.{grown, judged}
-use Rattle.aca_steps.specs.declared.Progress.{Progress}
-use Rattle.aca_steps.specs.declared.Step.{Step}
+use Rattle.aca_progress.specs.Crosses.{grown, judged}
+use Rattle.aca_progress.specs.declared.Progress.{Progress}
+use Rattle.aca_progress.specs.declared.Step.{Step}
 
 -- the first k columns of a matrix are all that the first k terms are about
 front : (m k : ℕ) (l : List Float) (i j : ℕ) → i < m → j < k → matrix m (take (k * m) l) i j ≡ matrix m l i j

@@ -1,4 +1,3 @@
-pub mod Crosses
 pub mod Memories
 pub mod Standing
 pub mod Working

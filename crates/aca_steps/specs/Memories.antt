@@ -5,7 +5,7 @@ use lib.Ieee.{Float}
 use denote.Ref.{RefT, now}
 use lib.ListN.{length, drop}
 use Rattle.common.specs.Matrices.{matrix}
-use Rattle.aca_steps.specs.Crosses.{Block, Found}
+use Rattle.aca_progress.specs.Crosses.{Block, Found}
 
 pub record Memory : Type 0 where
   pub us : List Float

@@ -6,12 +6,13 @@ use mathlib.Core.List.{List}
 use lib.Ieee.{Float}
 use lib.ListN.{length, take}
 use Rattle.common.specs.Refusals.{mostEntries}
-use Rattle.aca_lines.specs.Flags.{isOn}
-use Rattle.aca_steps.specs.Crosses.{Found, found, unread, Outcome, step}
+use Rattle.aca_pivots.specs.Flags.{isOn}
+use Rattle.aca_progress.specs.Crosses.{Found, found, unread, Outcome, step}
+use Rattle.aca_progress.specs.Working.{RowsKnown}
 use Rattle.aca_steps.specs.Memories.{Memory, laid, blockOf}
-use Rattle.aca_steps.specs.declared.Progress.{Progress}
-use Rattle.aca_steps.specs.declared.Reading.{Reading}
-use Rattle.aca_steps.specs.declared.Step.{Step}
+use Rattle.aca_progress.specs.declared.Progress.{Progress}
+use Rattle.aca_progress.specs.declared.Reading.{Reading}
+use Rattle.aca_progress.specs.declared.Step.{Step}
 
 -- What has been found after so many rows were read and k terms stored. A row may be read and give no term, so the two are counted
 -- apart.
@@ -39,14 +40,7 @@ pub record Sizes (samples : ℕ) (t : Memory) : Type 0 where
   pub u-room : length (t .«column-list») * length (t .column) ≤ length (t .us)
   pub v-room : length (t .«column-list») * length (t .row) ≤ length (t .vs)
 
--- what is known of the flags of m rows: every row below this one is read
-pub record RowsKnown (low m : ℕ) (flags : List ℕ) : Type 0 where
-  pub some : 0 < m
-  pub tall : m ≤ mostEntries
-  pub low-most : low ≤ m
-  pub below : (k : ℕ) → k < low → isOn flags k ≡ false
-
--- and a step after so many rows were read, with flags for what is unread
+-- what a step relies on, after so many rows were read, with flags for what is unread
 pub record Ready (samples : ℕ) (t : Memory) (g : Reading) (s : Progress) (rows columns : List ℕ) : Type 0 where
   pub sizes : Sizes samples t
   pub place : g .read < length (t .«row-list»)

@@ -8,13 +8,13 @@ use lib.ListN.{length, getD, set}
 use denote.Ref.{RefT, now}
 use Rattle.common.specs.Floats.{over, one₆₄}
 use Rattle.common.specs.Refusals.{mostEntries}
-use Rattle.aca_lines.specs.Flags.{isOn, cleared}
-use Rattle.aca_lines.specs.Largest.{argmax}
+use Rattle.aca_pivots.specs.Flags.{isOn, cleared}
+use Rattle.aca_pivots.specs.Largest.{argmax}
 use Rattle.aca_lines.specs.Lines.{columnLess, multiplied, asColumn, norm, cross}
-use Rattle.aca_lines.specs.declared.Pivot.{Pivot}
-use Rattle.aca_steps.specs.Crosses.{tiny₆₄, grown, judged}
-use Rattle.aca_steps.specs.declared.Progress.{Progress}
-use Rattle.aca_steps.specs.declared.Step.{Step}
+use Rattle.aca_pivots.specs.declared.Pivot.{Pivot}
+use Rattle.aca_progress.specs.Crosses.{tiny₆₄, grown, judged}
+use Rattle.aca_progress.specs.declared.Progress.{Progress}
+use Rattle.aca_progress.specs.declared.Step.{Step}
 
 -- THE ROW: row i of so many is read behind k terms, as number `read` of the list
 pub record RowFits (samples rows i k read : ℕ) (us vs row : List Float) (list : List ℕ) : Type 0 where
@@ -25,10 +25,6 @@ pub record RowFits (samples rows i k read : ℕ) (us vs row : List Float) (list 
   pub block : length row * rows ≤ samples
   pub u-long : k * rows ≤ length us
   pub v-long : k * length row ≤ length vs
-
--- the one test that is made of a pivot; `on` holds at the unread columns
-abbrev pub usableHere : (restart : Bool) → (on : ℕ → Bool) → Pivot → Bool
-usableHere restart on p = cond restart (on (p .place) && le tiny₆₄ (p .size)) (not (lt (p .size) tiny₆₄))
 
 -- THE TERM: what is lent for a column and the term that it gives
 pub record Lent : Type 0 where

@@ -8,7 +8,7 @@ use lib.Ieee.{Float}
 use lib.ListN.{length, getD}
 use Rattle.common.specs.Refusals.{noCount, wrongLength, noMask, unless, mostEntries, answer}
 use Rattle.common.specs.Tests.{each}
-use Rattle.aca_lines.specs.Largest.{argmax, counts}
+use Rattle.aca_pivots.specs.Largest.{argmax, counts}
 
 -- each byte is 0 or 1
 unfoldable pub isMask : (mask : List ℕ) → Bool

@@ -31,7 +31,7 @@ pub fn argmax_masked(entries: &[f64], mask: &[u8]) -> Place
         return Place::Refused(common::WRONG_LENGTH);
     }
     if is_mask(mask) {
-        return Place::At(aca_lines::pick(entries, mask).place);
+        return Place::At(aca_pivots::pick(entries, mask).place);
     }
     Place::Refused(common::NO_MASK)
 }

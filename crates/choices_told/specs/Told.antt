@@ -2,7 +2,7 @@
 use Prim.Native.Nat.{ℕ}
 use mathlib.Core.List.{List, [], _∷_}
 use lib.Ieee.{Float}
-use Rattle.aca_lines.specs.Largest.{argmax, counts}
+use Rattle.aca_pivots.specs.Largest.{argmax, counts}
 use Rattle.choices.specs.Argmax.{argmaxNumber}
 use Rattle.choices.specs.Cutoff.{cutoff, cutoffNumber}
 use Rattle.answers.specs.Answers.{written}

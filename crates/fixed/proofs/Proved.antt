@@ -15,11 +15,11 @@ use Rattle.turn.specs.Tables.{tableNumber, tableCall}
 use Rattle.vectors.specs.LookUps.{lookUpNumber, knownOf, lookUp}
 use Rattle.chebyshev.specs.Polynomials.{T, T′, polynomialsNumber, polynomialsCall}
 use Rattle.transfer.specs.Tensor.{passed, directed, operatorHalf, along, ends, transferNumber, transferred, transferCall}
-use Rattle.aca_lines.specs.Largest.{best, argmax, pivot, counts}
+use Rattle.aca_pivots.specs.Largest.{best, argmax, pivot, counts}
 use Rattle.choices.specs.Argmax.{isMask, argmaxNumber, argmaxCall}
 use Rattle.aca_lines.specs.Lines.{residual, multiplied, norm, cross}
-use Rattle.aca_steps.specs.Crosses.{unread, rowRead, columnRead, lesser, grown, weighed, stored, onward, without, usable, judged}
-use Rattle.aca_steps.specs.Crosses.{accepted, tried, step}
+use Rattle.aca_progress.specs.Crosses.{unread, rowRead, columnRead, lesser, grown, weighed, stored, onward, without, usable, judged}
+use Rattle.aca_progress.specs.Crosses.{accepted, tried, step}
 use Rattle.choices.specs.Cutoff.{squares, firstBelow, cutoff, cutoffNumber, cutoffCall}
 use Rattle.aca_steps.specs.Memories.{laid}
 use Rattle.aca.specs.Runs.{followed, run, report, fits, acaNumber, approximation, acaCall}

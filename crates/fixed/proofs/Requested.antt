@@ -18,10 +18,10 @@ use Rattle.exchange_format.specs.Words.{small, isFirst, isPassed, valueFrom, nu
 use Rattle.exchange_format.specs.Reading.{entries, sizeLine, opening, verdict, reading}
 use Rattle.exchange_format.specs.Writing.{wholeOf, wholes, writing}
 use Rattle.exchange_format.specs.Calls.{sizeCall, readCall, writeCall}
-use Rattle.aca_lines.specs.Largest.{best, argmax, pivot}
+use Rattle.aca_pivots.specs.Largest.{best, argmax, pivot}
 use Rattle.aca_lines.specs.Lines.{residual, multiplied, norm, cross}
-use Rattle.aca_steps.specs.Crosses.{unread, rowRead, columnRead, lesser, grown, weighed, stored, elsewhere, onward, without, usable}
-use Rattle.aca_steps.specs.Crosses.{judged, accepted, tried, step}
+use Rattle.aca_progress.specs.Crosses.{unread, rowRead, columnRead, lesser, grown, weighed, stored, elsewhere, onward, without, usable}
+use Rattle.aca_progress.specs.Crosses.{judged, accepted, tried, step}
 use Rattle.aca_steps.specs.Memories.{laid}
 use Rattle.aca.specs.Runs.{followed, run, report, fits, acaNumber, approximation, acaCall}
 use Rattle.fixed.specs.Requests.{Requested}

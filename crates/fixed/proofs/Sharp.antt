@@ -12,10 +12,10 @@ use lib.ListN.{length, getD}
 use Rattle.common.specs.Floats.{zero₆₄, one₆₄, two₆₄, size, sums}
 use Rattle.common.specs.Tests.{any, lowest}
 use Rattle.common.proofs.Cases.{not-both}
-use Rattle.aca_lines.specs.Largest.{best, argmax, pivot}
+use Rattle.aca_pivots.specs.Largest.{best, argmax, pivot}
 use Rattle.aca_lines.specs.Lines.{residual, multiplied, norm, cross}
-use Rattle.aca_steps.specs.Crosses.{unread, rowRead, columnRead, lesser, grown, weighed, stored, elsewhere, onward, without, usable}
-use Rattle.aca_steps.specs.Crosses.{judged, accepted, tried, step}
+use Rattle.aca_progress.specs.Crosses.{unread, rowRead, columnRead, lesser, grown, weighed, stored, elsewhere, onward, without, usable}
+use Rattle.aca_progress.specs.Crosses.{judged, accepted, tried, step}
 use Rattle.aca_steps.specs.Memories.{Memory}
 use Rattle.aca.specs.Runs.{Finish, followed, run, approximation}
 use Rattle.aca.specs.Unseen.{SameRow, SameColumn}

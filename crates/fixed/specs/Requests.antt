@@ -15,7 +15,7 @@ use Rattle.ratios.specs.declared.air.Air.the-variants.{Ratio, Unusable, Fresh}
 use Rattle.exchange_format.specs.Lines.{newline}
 use Rattle.exchange_format.specs.Words.{banner, kind, Size}
 use Rattle.exchange_format.specs.Calls.{sizeCall, readCall, writeCall}
-use Rattle.aca_steps.specs.Crosses.{tiny₆₄}
+use Rattle.aca_progress.specs.Crosses.{tiny₆₄}
 use Rattle.aca_steps.specs.Memories.{Memory, memory}
 use Rattle.aca.specs.Runs.{approximation, call, acaCall}
 use Rattle.aca.specs.Unseen.{SameRow, SameColumn}

@@ -3,8 +3,8 @@ use borrow.Author.Needs.{needs}
 use mathlib.Core.Path.{sym, subst}
 use Prim.Native.Nat.{ℕ}
 use Rattle.common.proofs.Tests.{lowest-most, lowest-least}
-use Rattle.aca_lines.specs.Flags.{isOn}
-use Rattle.aca_steps.specs.Standing.{RowsKnown}
+use Rattle.aca_pivots.specs.Flags.{isOn}
+use Rattle.aca_progress.specs.Working.{RowsKnown}
 use Rattle.aca.proofs.run.risen.Statement.{statement}
 use Rattle.aca.proofs.run.risen.Tie as tie
 

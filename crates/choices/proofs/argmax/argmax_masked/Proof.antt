@@ -4,8 +4,8 @@ use mathlib.Core.Path.{_≡_, sym, ap, _∙_}
 use borrow.Author.Tests.{le-leb, lt-leb, eq-eqb, ne-eqb}
 use Rattle.common.specs.Refusals.{mostEntries, noMask, unless}
 use Rattle.choices.specs.declared.Place.the-variants.{At}
-use Rattle.aca_lines.specs.Largest.{pivot}
-use Rattle.aca_lines.specs.declared.Pivot.{Pivot}
+use Rattle.aca_pivots.specs.Largest.{pivot}
+use Rattle.aca_pivots.specs.declared.Pivot.{Pivot}
 use Rattle.choices.specs.Argmax.{isMask, argmaxNumber, argmaxCall}
 use Rattle.choices.specs.Places.{told}
 use Rattle.choices.proofs.argmax.argmax_masked.Statement.{statement}

@@ -1,0 +1,4 @@
+pub mod Largest
+pub mod Facts
+pub mod Flags
+pub mod Working

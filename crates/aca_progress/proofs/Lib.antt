@@ -1,0 +1,4 @@
+pub mod Chosen
+pub mod Sizes
+pub mod Ways
+pub mod Determined

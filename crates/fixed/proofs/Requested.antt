@@ -12,6 +12,7 @@ use Rattle.roots.specs.Values.{floorRoot, nearestRoot, root}
 use Rattle.distances.specs.Distances.{added}
 use Rattle.coordinates.specs.Coordinates.{allFinite, coordinateIn, inCell, allInCell, pointsNumber}
 use Rattle.coefficients.specs.Before.{coefficientsNumber, coefficientsCall, lengthsFit}
+use Rattle.airs.specs.Airs as airs
 use Rattle.ratios.specs.Ratios as ratios
 use Rattle.exchange_format.specs.Lines.{onto, lines, before, from, past, all, same}
 use Rattle.exchange_format.specs.Words.{small, isFirst, isPassed, valueFrom, numeral, size as sizeOf, entry as entryOf}
@@ -31,7 +32,7 @@ pub requested : Requested
 unfolding size isCell each allFinite coordinateIn inCell allInCell pointsNumber floorRoot nearestRoot root added digit references entry
     isReference those sums best argmax pivot residual multiplied norm cross any lowest unread rowRead columnRead lesser grown
     weighed stored elsewhere onward without usable judged accepted tried step followed run report laid fits acaNumber approximation acaCall left
-    lengthsFit coefficientsNumber coefficientsCall lower ratios.deficiency ratios.ratio ratios.airOf ratios.isFloor ratios.floorNumber
+    lengthsFit coefficientsNumber coefficientsCall lower airs.deficiency airs.ratio airs.airOf ratios.isFloor ratios.floorNumber
     ratios.lengthsFit ratios.lengthsNumber ratios.orLast ratios.ratiosNumber ratios.ratiosCall
     onto lines before from past all same small isFirst isPassed valueFrom numeral sizeOf entryOf entries sizeLine opening verdict reading
     whole wholeOf wholes writing sizeCall readCall writeCall

@@ -10,8 +10,9 @@ use Rattle.common.specs.Floats.{float, zero₆₄, one₆₄, two₆₄, half�
 use Rattle.coordinates.specs.Coordinates.{pointsNumber}
 use Rattle.roots.specs.Values.{root}
 use Rattle.distances.specs.Distances.{sample}
-use Rattle.ratios.specs.Ratios.{airOf, ratiosCall}
-use Rattle.ratios.specs.declared.air.Air.the-variants.{Ratio, Unusable, Fresh}
+use Rattle.airs.specs.Airs.{airOf}
+use Rattle.ratios.specs.Ratios.{ratiosCall}
+use Rattle.airs.specs.declared.air.Air.the-variants.{Ratio, Unusable, Fresh}
 use Rattle.exchange_format.specs.Lines.{newline}
 use Rattle.exchange_format.specs.Words.{banner, kind, Size}
 use Rattle.exchange_format.specs.Calls.{sizeCall, readCall, writeCall}

@@ -17,12 +17,13 @@ use Rattle.common.proofs.Sums.{sums-cong}
 use Rattle.coordinates.specs.Coordinates.{coordinate}
 use Rattle.coefficients.specs.Coefficients.{value}
 use Rattle.coefficients.specs.Before.{Memory as Below, leaves as coefficientsLeft, coefficientsCall}
-use Rattle.ratios.specs.Ratios.{ratio, numberOf, ratioOr, field, airAt, answersOf, ratiosOf, isFloor, floorNumber, Memory, below}
+use Rattle.airs.specs.Airs.{ratio, numberOf, ratioOr, field, airAt, answersOf, ratiosOf}
+use Rattle.ratios.specs.Ratios.{isFloor, floorNumber, Memory, below}
 use Rattle.ratios.specs.Ratios.{ratiosNumber, told, ratiosCall}
 use Rattle.ratios.specs.Facts.{Done, FloorIsRight, answer, shown, RatioIsRight, UnusableIsRight, FreshIsRight, OneOfThree}
 use Rattle.ratios.specs.Facts.{NothingBelowFloor, GasIsProduct}
-use Rattle.ratios.specs.declared.air.Air.{Air}
-use Rattle.ratios.proofs.Airs.{said-ratio, said-unusable, said-fresh, said-below, said-three}
+use Rattle.airs.specs.declared.air.Air.{Air}
+use Rattle.airs.proofs.Airs.{said-ratio, said-unusable, said-fresh, said-below, said-three}
 use Rattle.ratios.proofs.Calls.{none}
 
 module _ (D p P : ℕ) (side floor : Float) (centre t c n o x v f : List Float) (a : List ℕ) (q : List Float) (leaves : Memory)

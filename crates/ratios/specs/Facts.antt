@@ -10,7 +10,8 @@ use lib.ListN.{getD}
 use Rattle.common.specs.Floats.{zero₆₄, inner}
 use Rattle.coordinates.specs.Coordinates.{coordinate}
 use Rattle.coefficients.specs.Coefficients.{value}
-use Rattle.ratios.specs.Ratios.{deficiency, ratio, field, Memory, ratiosCall}
+use Rattle.airs.specs.Airs.{deficiency, ratio, field}
+use Rattle.ratios.specs.Ratios.{Memory, ratiosCall}
 
 -- a call with these arguments, the memory that it was lent, and what it leaves there
 module _ (D p P : ℕ) (side floor : Float) (centre polynomials carbonMonoxide nitrogen oxygen : List Float)

@@ -1,3 +1,2 @@
 pub mod Ratios
 pub mod Facts
-pub mod Working

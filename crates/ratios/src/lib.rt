@@ -1,6 +1,4 @@
 // Graham's ratio at points in a cell, or a word why there is none: over the public calls of `coefficients` alone.
-mod air;
-mod fields;
 mod limits;
 
 ghost use mathlib.Core.Path.{_≡_};
@@ -8,9 +6,8 @@ ghost use mathlib.Core.Bool.{false};
 ghost use mathlib.Core.List.{[]};
 ghost use Rattle.coefficients.specs.Before.{coefficientsCall};
 ghost use Rattle.ratios.specs.Ratios.{ratiosCall};
-use crate::fields::fill_answers;
 use crate::limits::ratios_number;
-pub use air::Air;
+use airs::fill_answers;
 use coefficients::Cell;
 use coefficients::Wanted;
 use coefficients::get_approximation_coefficients;

@@ -1,8 +1,8 @@
--- `ratios::air::number_of` meets its contract, arm by arm. Assumes nothing.
+-- `airs::air::number_of` meets its contract, arm by arm. Assumes nothing.
 use borrow.Author.Needs.{needs}
-use Rattle.ratios.specs.Ratios.{numberOf}
-use Rattle.ratios.proofs.air.number_of.Statement.{statement}
-use Rattle.ratios.proofs.air.number_of.Tie as tie
+use Rattle.airs.specs.Airs.{numberOf}
+use Rattle.airs.proofs.air.number_of.Statement.{statement}
+use Rattle.airs.proofs.air.number_of.Tie as tie
 
 enum-told : tie.Need-enum-told
 enum-told c = search needs

@@ -7,8 +7,8 @@ use lib.ListN.{length, getD}
 use Rattle.common.specs.Floats.{plus, times}
 use Rattle.common.specs.Lists.{stretch}
 use Rattle.common.specs.Refusals.{mostPoints}
-use Rattle.ratios.specs.Ratios.{airOf, numberOf, ratioOr, answersOf, ratiosOf}
-use Rattle.ratios.specs.declared.air.Air.{Air}
+use Rattle.airs.specs.Airs.{airOf, numberOf, ratioOr, answersOf, ratiosOf}
+use Rattle.airs.specs.declared.air.Air.{Air}
 
 -- the answers, and the ratios over what was lent
 abbrev pub toldOf : (P : ℕ) → (ℕ → Air) → (ratios : List Float) → List ℕ × List Float

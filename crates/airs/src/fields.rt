@@ -4,8 +4,8 @@ ghost use Prim.Native.Nat.{_+_, _<_, _≤_};
 ghost use lib.Ieee.{nan};
 ghost use lib.ListN.{length, getD, set};
 ghost use Rattle.common.specs.Lists.{stretch};
-ghost use Rattle.ratios.specs.Ratios.{field, airAt, numberOf, ratioOr};
-ghost use Rattle.ratios.specs.Working.{Evaluated, Runs, Tells, twoMore, airHere, airFrom, toldFrom, toldOf};
+ghost use Rattle.airs.specs.Airs.{field, airAt, numberOf, ratioOr};
+ghost use Rattle.airs.specs.Working.{Evaluated, Runs, Tells, twoMore, airHere, airFrom, toldFrom, toldOf};
 use crate::air::Air;
 use crate::air::Gases;
 use crate::air::air_of;
@@ -146,7 +146,7 @@ fn fill_run(
 }
 
 // All points, run by run.
-pub(crate) fn fill_answers(
+pub fn fill_answers(
     nodes: usize,
     rows: usize,
     floor: f64,

@@ -1,6 +1,6 @@
 // What is said of the air at one point, from the gases there.
 ghost use mathlib.Core.Path.{_≡_};
-ghost use Rattle.ratios.specs.Ratios.{airOf, numberOf};
+ghost use Rattle.airs.specs.Airs.{airOf, numberOf};
 
 // How much of each gas there is at a point.
 pub struct Gases {

@@ -1,8 +1,8 @@
--- `ratios::fields::put_air` meets its contract, arm by arm. Assumes nothing.
+-- `airs::fields::put_air` meets its contract, arm by arm. Assumes nothing.
 use borrow.Author.Needs.{needs}
-use Rattle.ratios.proofs.Points.{put-ratio, put-unusable, put-fresh}
-use Rattle.ratios.proofs.fields.put_air.Statement.{statement}
-use Rattle.ratios.proofs.fields.put_air.Tie as tie
+use Rattle.airs.proofs.Points.{put-ratio, put-unusable, put-fresh}
+use Rattle.airs.proofs.fields.put_air.Statement.{statement}
+use Rattle.airs.proofs.fields.put_air.Tie as tie
 
 number-of-requires : tie.Need-number-of-requires
 number-of-requires c κs = search needs

@@ -1,0 +1,3 @@
+pub mod Airs
+pub mod Points
+pub mod Determined

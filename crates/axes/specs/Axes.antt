@@ -7,7 +7,7 @@ use lib.Ieee.{Float}
 use Rattle.common.specs.Floats.{minus, times, over, one₆₄, two₆₄, float, inner, sums}
 use Rattle.common.specs.Matrices.{cell, matrix}
 use Rattle.common.specs.Refusals.{Shape, mostPoints, sizeIf}
-use Rattle.chebyshev.specs.Polynomials.{T, T′}
+use Rattle.polynomial_columns.specs.Recurrence.{T, T′}
 
 -- S of a sum: (sum*2 - 1)/p; and S': (sum*(2/p))*(2/side)
 unfoldable pub factorOf : (p : ℕ) → (sum : Float) → Float

@@ -11,8 +11,7 @@ use Rattle.common.specs.Matrices.{cell, matrix, columnMajor}
 use Rattle.common.proofs.Fill.{part-read}
 use Rattle.common.proofs.Matrices.{column-cong, columns-filled}
 use Rattle.common.proofs.Steps.{Stepping, stepping-more, stepping-done}
-use Rattle.chebyshev.specs.Polynomials.{T, T′}
-use Rattle.chebyshev.specs.Second.{T″}
+use Rattle.polynomial_columns.specs.Recurrence.{T, T′, T″}
 use Rattle.axes.proofs.Stretches.{part, axesAt, axis-block}
 use Rattle.bends.specs.Bends.{roomOf}
 use Rattle.bends.specs.Working.{columnsAt, roomAfter}

@@ -13,8 +13,8 @@ use Rattle.common.specs.Matrices.{cell, matrix, columnMajor}
 use Rattle.common.proofs.Fill.{fill-on, fill-all, listed, stretch-cong, stretch-inside, stretch-again, length-tabulate}
 use Rattle.common.proofs.Matrices.{column-length, column-entry, some-rows}
 use Rattle.common.proofs.Sums.{sums-cong}
-use Rattle.chebyshev.specs.Polynomials.{T, T′, atPoints}
-use Rattle.chebyshev.specs.Second.{T″}
+use Rattle.polynomial_columns.specs.Recurrence.{T, T′, T″}
+use Rattle.chebyshev.specs.Polynomials.{atPoints}
 use Rattle.axes.specs.Axes.{factorOf, slopeOf, S, S′, sumsOf}
 use Rattle.bends.specs.Bends.{bendOf, S″, roomOf}
 use Rattle.bends.specs.Working.{columnsAt, between, finishedAt}

@@ -6,8 +6,7 @@ use lib.Ieee.{Float}
 use Rattle.common.specs.Floats.{times, over, two₆₄, float, inner}
 use Rattle.common.specs.Matrices.{matrix, columnMajor}
 use Rattle.common.specs.Refusals.{Shape, mostPoints}
-use Rattle.chebyshev.specs.Polynomials.{T, T′}
-use Rattle.chebyshev.specs.Second.{T″}
+use Rattle.polynomial_columns.specs.Recurrence.{T, T′, T″}
 
 -- S'' of a sum: ((sum*(2/p))*(2/side))*(2/side)
 unfoldable pub bendOf : (p : ℕ) → (side sum : Float) → Float

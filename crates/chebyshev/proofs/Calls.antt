@@ -11,7 +11,8 @@ use borrow.Author.Tests.{eqb-true, le-leb, lt-leb, eq-eqb, ne-eqb}
 use Rattle.common.specs.Refusals.{sizeIf, orderNumber}
 use Rattle.common.proofs.Cases.{inside, equal-and}
 use Rattle.common.proofs.Limits.{order-in, order-out, left-done, call-refused₂, call-done₂, passed, order-passed}
-use Rattle.chebyshev.specs.Polynomials.{T, T′, atPoints, polynomialsNumber, polynomialsCall}
+use Rattle.polynomial_columns.specs.Recurrence.{T, T′}
+use Rattle.chebyshev.specs.Polynomials.{atPoints, polynomialsNumber, polynomialsCall}
 
 -- the three lengths are as stated
 pub record Lengths (p P : ℕ) (with : Bool) (n v d : ℕ) : Type 0 where

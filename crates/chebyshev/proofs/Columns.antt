@@ -1,8 +1,7 @@
--- Columns of a recurrence: what each is, from the columns before it; and so of T and T'. Assumes nothing.
+-- Columns of a recurrence are filled one by one, each from the columns before it; and so T and T'. Assumes nothing.
 use mathlib.Core.Path.{_≡_, refl, sym, ap, _∙_}
 use mathlib.Core.List.{List}
 use Prim.Native.Nat.{ℕ, zero, suc, _+_, _-_, _*_, _<_, _≤_}
-use native.Mathlib.Nat.{mul-le-mul}
 use native.Mathlib.Numerals.{add-one}
 use native.Mathlib.Omega.{arith}
 use lib.Ieee.{Float, nan}
@@ -12,31 +11,10 @@ use Rattle.common.specs.Floats.{minus}
 use Rattle.common.specs.Matrices.{cell}
 use Rattle.common.proofs.Fill.{fill-on, fill-read}
 use Rattle.common.proofs.Matrices.{next-column, cell-at, columns-filled}
-use Rattle.chebyshev.specs.Polynomials.{T, T′, atPoints}
-use Rattle.chebyshev.specs.Working.{columnOf, columnT, columnT′}
-
--- from the third column on there are two columns before
-pub two-before : (j rows at : ℕ) → at ≡ j * rows → (j ≡ 0 → ⊥) → (j ≡ 1 → ⊥) → rows + rows ≤ at
-two-before j rows at e a b = let two = mul-le-mul {n₁ = 2} {m₁ = rows} {n₂ = j} {m₂ = rows} (omega arith) (omega arith) in omega arith
-
--- EACH COLUMN by its number
-
-module _ (first second later : ℕ → Float) (j : ℕ) where
-  pub is-first : j ≡ 0 → columnOf first second later j ≡ first
-  unfolding columnOf
-  is-first e = rw e
-
-  pub is-second : j ≡ 1 → columnOf first second later j ≡ second
-  unfolding columnOf
-  is-second e = rw e
-
-pub is-later : (first second later : ℕ → Float) (j : ℕ) → (j ≡ 0 → ⊥) → (j ≡ 1 → ⊥) → columnOf first second later j ≡ later
-unfolding columnOf
-is-later first second later zero a b = absurd (a refl)
-is-later first second later (suc zero) a b = absurd (b refl)
-is-later first second later (suc (suc j)) a b = refl
-
--- FILLING COLUMN BY COLUMN
+use Rattle.polynomial_columns.specs.Recurrence.{T, T′}
+use Rattle.polynomial_columns.specs.Working.{columnOf, columnT, columnT′}
+use Rattle.polynomial_columns.proofs.Numbers.{two-before}
+use Rattle.chebyshev.specs.Polynomials.{atPoints}
 
 module _ (rows : ℕ) where
   -- the places of an entry one column before, and two

@@ -13,20 +13,14 @@ use Rattle.common.specs.Matrices.{cell}
 use Rattle.common.specs.Refusals.{unless, isOrder, wrongLength}
 use Rattle.common.proofs.Cases.{by-bool, inside, equal-and}
 use Rattle.common.proofs.Limits.{left-done, call-refused, call-done, passed, order-passed}
-use Rattle.chebyshev.specs.Polynomials.{T, T′, atPoints, polynomialsNumber}
-use Rattle.chebyshev.specs.Second.{T″, Memory, secondNumber, secondCall}
-use Rattle.chebyshev.specs.Working.{columnOf, columnT″}
+use Rattle.polynomial_columns.specs.Recurrence.{T, T′, T″}
+use Rattle.chebyshev.specs.Polynomials.{atPoints, polynomialsNumber}
+use Rattle.chebyshev.specs.Second.{Memory, secondNumber, secondCall}
+use Rattle.polynomial_columns.specs.Working.{columnT″}
 use Rattle.chebyshev.proofs.Calls.{Lengths, polynomials-accepted}
 use Rattle.chebyshev.proofs.Columns.{back-one, back-two, column-filled}
 
 -- COLUMN BY COLUMN
-
--- the first two columns of T'' are alike
-pub is-early : (f later : ℕ → Float) (j : ℕ) → j < 2 → columnOf f f later j ≡ f
-unfolding columnOf
-is-early f later zero h = refl
-is-early f later (suc zero) h = refl
-is-early f later (suc (suc j)) h = absurd (omega arith)
 
 module _ (rows : ℕ) (x : List Float) where
   abbrev entryT′ : ℕ → ℕ → Float

@@ -1,3 +1,2 @@
 pub mod Polynomials
 pub mod Second
-pub mod Working

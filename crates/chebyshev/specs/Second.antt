@@ -1,28 +1,13 @@
--- Second derivatives of the Chebyshev polynomials at floats, operation by operation, from the recurrence; and what their call leaves.
+-- Second derivatives of the Chebyshev polynomials at points: what their call refuses, and what it leaves.
 use mathlib.Core.Bool.{_&&_}
 use mathlib.Core.List.{List}
-use Prim.Native.Nat.{ℕ, zero, suc, _*_}
+use Prim.Native.Nat.{ℕ, _*_}
 use lib.Dec.{leb, eqb}
-use lib.Ieee.{Float, ofBits, binary64}
+use lib.Ieee.{Float}
 use lib.ListN.{length}
-use Rattle.common.specs.Floats.{plus, minus, times, zero₆₄, two₆₄}
 use Rattle.common.specs.Refusals.{noOrder, noCount, wrongLength, unless, isOrder, mostPoints, left}
-use Rattle.chebyshev.specs.Polynomials.{T, T′, atPoints}
-
-abbrev pub four₆₄ : Float
-four₆₄ = ofBits binary64 0x4010000000000000
-
--- one step of the recurrence: ((4*T'(j-1)) + ((2x)*T''(j-1))) - T''(j-2)
-abbrev pub nextT″ : (x d1 s1 s2 : Float) → Float
-nextT″ x d1 s1 s2 = minus (plus (times four₆₄ d1) (times (times two₆₄ x) s1)) s2
-
--- T''0 = 0, T''1 = 0
-unfoldable pub T″ : (j : ℕ) → Float → Float
-T″ zero x = zero₆₄
-T″ (suc zero) x = zero₆₄
-T″ (suc (suc j)) x = nextT″ x (T′ (suc j) x) (T″ (suc j) x) (T″ j x)
-
--- THE CALL
+use Rattle.polynomial_columns.specs.Recurrence.{T, T′, T″}
+use Rattle.chebyshev.specs.Polynomials.{atPoints}
 
 -- the memory that is lent to be written: T, T' and T'' at the points
 abbrev pub Memory : Type 0

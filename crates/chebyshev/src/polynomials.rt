@@ -1,82 +1,11 @@
 // The Chebyshev polynomials T and their derivatives T' at a list of points, column by column.
 ghost use mathlib.Core.Path.{_≡_};
-ghost use Prim.Native.Nat.{_+_, _*_, _-_, _<_, _≤_};
+ghost use Prim.Native.Nat.{_*_};
 ghost use lib.ListN.{length};
-ghost use Rattle.common.specs.Lists.{stretch};
-ghost use Rattle.chebyshev.specs.Polynomials.{T, T′, atPoints, polynomialsNumber, polynomialsCall};
-ghost use Rattle.chebyshev.specs.Working.{laterT, laterT′, columnT, columnT′};
-
-// The next column of T, at place `at`, from the two columns before it.
-fn next_polynomials(rows: usize, points: &[f64], at: usize, tn: &mut [f64])
-    requires { ⌜ (length (now points) ≡ rows) × (rows + rows ≤ at) × (at + rows ≤ length (now tn)) ⌝ }
-    ensures { λ _. ⌜ now (tn .exit) ≡ stretch at rows (laterT rows (now (points .entry)) (now (tn .entry)) at) (now (tn .entry)) ⌝ }
-{
-    let before = at - rows;
-    let last = before - rows;
-    let mut i = 0;
-    while i < rows {
-        tn[at + i] = (2.0 * points[i]) * tn[before + i] - tn[last + i];
-        i += 1;
-    }
-}
-
-// The next columns of T and T', at place `at`, from the columns before them; 2x and T before are read once for both.
-fn next_columns(rows: usize, points: &[f64], at: usize, tn: &mut [f64], dtn: &mut [f64])
-    requires { ⌜ (length (now points) ≡ rows) × (rows + rows ≤ at) × (at + rows ≤ length (now tn)) × (at + rows ≤ length (now dtn)) ⌝ }
-    ensures { λ _. ⌜ (now (tn .exit) ≡ stretch at rows (laterT rows (now (points .entry)) (now (tn .entry)) at) (now (tn .entry))) ×
-        (now (dtn .exit) ≡
-        stretch at rows (laterT′ rows (now (points .entry)) (now (tn .entry)) (now (dtn .entry)) at) (now (dtn .entry))) ⌝ }
-{
-    let before = at - rows;
-    let last = before - rows;
-    let mut i = 0;
-    while i < rows {
-        let twice = 2.0 * points[i];
-        let t = tn[before + i];
-        tn[at + i] = twice * t - tn[last + i];
-        dtn[at + i] = ((2.0 * t) + (twice * dtn[before + i])) - dtn[last + i];
-        i += 1;
-    }
-}
-
-// Column j of T, at place `at`.
-fn polynomial_column(j: usize, rows: usize, points: &[f64], at: usize, tn: &mut [f64])
-    requires { ⌜ (length (now points) ≡ rows) × (at ≡ j * rows) × (at + rows ≤ length (now tn)) ⌝ }
-    ensures { λ _. ⌜ now (tn .exit) ≡ stretch at rows (columnT j rows (now (points .entry)) (now (tn .entry)) at) (now (tn .entry)) ⌝ }
-{
-    if j == 0 {
-        common::fill_with(1.0, rows, at, tn);
-    } else if j == 1 {
-        common::copy_column(rows, points, at, tn);
-    } else {
-        next_polynomials(rows, points, at, tn);
-    }
-}
-
-// Column j of T and of T', at place `at`.
-pub(crate) fn both_columns(
-    j: usize,
-    rows: usize,
-    points: &[f64],
-    at: usize,
-    tn: &mut [f64],
-    dtn: &mut [f64],
-)
-    requires { ⌜ (length (now points) ≡ rows) × (at ≡ j * rows) × (at + rows ≤ length (now tn)) × (at + rows ≤ length (now dtn)) ⌝ }
-    ensures { λ _. ⌜ (now (tn .exit) ≡ stretch at rows (columnT j rows (now (points .entry)) (now (tn .entry)) at) (now (tn .entry))) ×
-        (now (dtn .exit) ≡
-        stretch at rows (columnT′ j rows (now (points .entry)) (now (tn .entry)) (now (dtn .entry)) at) (now (dtn .entry))) ⌝ }
-{
-    if j == 0 {
-        common::fill_with(1.0, rows, at, tn);
-        common::fill_with(0.0, rows, at, dtn);
-    } else if j == 1 {
-        common::copy_column(rows, points, at, tn);
-        common::fill_with(1.0, rows, at, dtn);
-    } else {
-        next_columns(rows, points, at, tn, dtn);
-    }
-}
+ghost use Rattle.polynomial_columns.specs.Recurrence.{T, T′};
+ghost use Rattle.chebyshev.specs.Polynomials.{atPoints, polynomialsNumber, polynomialsCall};
+use polynomial_columns::both_columns;
+use polynomial_columns::polynomial_column;
 
 fn fill_polynomials(order: usize, rows: usize, points: &[f64], tn: &mut [f64])
     requires { ⌜ (length (now points) ≡ rows) × (length (now tn) ≡ order * rows) ⌝ }

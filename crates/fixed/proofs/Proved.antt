@@ -13,7 +13,8 @@ use Rattle.vectors.specs.Vectors.{index, case, atMost, near, isReference, refer
 use Rattle.turn.specs.Turned.{reversed, negative, axisOf, placeOf, turnedIndex, turned, returnedIndex, returned}
 use Rattle.turn.specs.Tables.{tableNumber, tableCall}
 use Rattle.vectors.specs.LookUps.{lookUpNumber, knownOf, lookUp}
-use Rattle.chebyshev.specs.Polynomials.{T, T′, polynomialsNumber, polynomialsCall}
+use Rattle.polynomial_columns.specs.Recurrence.{T, T′}
+use Rattle.chebyshev.specs.Polynomials.{polynomialsNumber, polynomialsCall}
 use Rattle.transfer.specs.Tensor.{passed, directed, operatorHalf, along, ends, transferNumber, transferred, transferCall}
 use Rattle.aca_pivots.specs.Largest.{best, argmax, pivot, counts}
 use Rattle.choices.specs.Argmax.{isMask, argmaxNumber, argmaxCall}

@@ -12,7 +12,7 @@ use Rattle.common.specs.Lists.{stretch}
 use Rattle.common.specs.Matrices.{cell, columnMajor}
 use Rattle.common.proofs.Fill.{stretch-inside, stretch-cong, stretch-again, fill-on}
 use Rattle.common.proofs.Matrices.{cell-at, columns-filled}
-use Rattle.chebyshev.specs.Polynomials.{T}
+use Rattle.polynomial_columns.specs.Recurrence.{T}
 use Rattle.operators.specs.Operators.{childNode, operator}
 use Rattle.operators.specs.Working.{partOf}
 

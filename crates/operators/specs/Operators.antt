@@ -9,7 +9,7 @@ use Rattle.common.specs.Floats.{plus, minus, times, over, one₆₄, two₆₄,
 use Rattle.common.specs.Matrices.{columnMajor}
 use Rattle.common.specs.Refusals.{noOrder, wrongLength, unless, isOrder, left}
 use Rattle.common.specs.Matrices.{matrix}
-use Rattle.chebyshev.specs.Polynomials.{T}
+use Rattle.polynomial_columns.specs.Recurrence.{T}
 
 -- child nodes are (x-1)*0.5, then (x+1)*0.5
 unfoldable pub childNode : (p : ℕ) → (nodes : List Float) → (c : ℕ) → Float

@@ -4,7 +4,7 @@ use Prim.Native.Nat.{ℕ}
 use lib.Ieee.{Float}
 use Rattle.common.specs.Floats.{times, sums}
 use Rattle.common.specs.Matrices.{matrix}
-use Rattle.chebyshev.specs.Polynomials.{T}
+use Rattle.polynomial_columns.specs.Recurrence.{T}
 
 -- term s of row i, for a child node x; and the sum of the row's first k terms
 abbrev pub termOf : (p : ℕ) → (polynomials : List Float) → (x : Float) → (i s : ℕ) → Float

@@ -2,8 +2,7 @@
 use mathlib.Core.Path.{_≡_, refl}
 use Prim.Native.Nat.{ℕ, zero, suc}
 use lib.Ieee.{Float}
-use Rattle.chebyshev.specs.Polynomials.{T, T′}
-use Rattle.chebyshev.specs.Second.{T″}
+use Rattle.polynomial_columns.specs.Recurrence.{T, T′, T″}
 use Rattle.recurrences.specs.Recurrence.{chebyshev, derived, chebyshev′, chebyshev″}
 use Rattle.recurrences.specs.Floats.{floats, SameRule}
 

@@ -3,8 +3,7 @@ use mathlib.Core.Path.{_≡_}
 use Prim.Native.Nat.{ℕ}
 use lib.Ieee.{Float}
 use Rattle.common.specs.Floats.{plus, minus, times, zero₆₄, one₆₄, two₆₄}
-use Rattle.chebyshev.specs.Polynomials.{T, T′}
-use Rattle.chebyshev.specs.Second.{T″, four₆₄}
+use Rattle.polynomial_columns.specs.Recurrence.{T, T′, T″, four₆₄}
 use Rattle.recurrences.specs.Recurrence.{Numbers, chebyshev, chebyshev′, chebyshev″}
 
 -- the floats, one of which is called x: each operation rounds once

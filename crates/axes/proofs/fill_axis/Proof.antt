@@ -7,7 +7,7 @@ use native.Mathlib.Nat.{mul-le-mul}
 use native.Mathlib.Omega.{arith}
 use lib.ListN.{length}
 use Rattle.common.proofs.Matrices.{column-length}
-use Rattle.chebyshev.specs.Polynomials.{T, T′}
+use Rattle.polynomial_columns.specs.Recurrence.{T, T′}
 use Rattle.chebyshev.proofs.Calls.{polynomials-filled}
 use Rattle.axes.specs.Axes.{factorOf, slopeOf, S, S′}
 use Rattle.axes.proofs.Stretches.{axis-finished, wanted-yes, wanted-no}

@@ -7,7 +7,7 @@ use native.Mathlib.Nat.{zero-mul}
 use native.Mathlib.Omega.{arith}
 use lib.ListN.{length}
 use Rattle.common.specs.Lists.{stretch}
-use Rattle.chebyshev.specs.Polynomials.{T}
+use Rattle.polynomial_columns.specs.Recurrence.{T}
 use Rattle.operators.specs.Working.{termOf, partOf}
 use Rattle.common.proofs.Matrices.{next-column, column-fits}
 use Rattle.common.proofs.Sums.{adding-none, adding-next, adding-all}

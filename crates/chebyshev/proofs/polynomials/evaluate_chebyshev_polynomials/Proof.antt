@@ -7,7 +7,8 @@ use Prim.Native.Nat.{_*_}
 use borrow.Author.Needs.{needs}
 use lib.ListN.{length}
 use Rattle.common.specs.Refusals.{sizeIf}
-use Rattle.chebyshev.specs.Polynomials.{T′, atPoints}
+use Rattle.polynomial_columns.specs.Recurrence.{T′}
+use Rattle.chebyshev.specs.Polynomials.{atPoints}
 use Rattle.chebyshev.proofs.Calls.{Lengths, polynomials-accepted, polynomials-refused, polynomials-done, none}
 use Rattle.chebyshev.proofs.polynomials.evaluate_chebyshev_polynomials.Statement.{statement}
 use Rattle.chebyshev.proofs.polynomials.evaluate_chebyshev_polynomials.Tie as tie

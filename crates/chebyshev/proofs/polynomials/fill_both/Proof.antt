@@ -9,7 +9,7 @@ use lib.ListN.{length, getD}
 use Rattle.common.specs.Lists.{stretch}
 use Rattle.common.specs.Matrices.{cell}
 use Rattle.common.proofs.Matrices.{next-column, column-fits}
-use Rattle.chebyshev.specs.Polynomials.{T, T′}
+use Rattle.polynomial_columns.specs.Recurrence.{T, T′}
 use Rattle.chebyshev.proofs.Columns.{values-filled, slopes-filled, columns-all}
 use borrow.Author.Needs.{needs}
 use Rattle.chebyshev.proofs.polynomials.fill_both.Statement.{statement}

@@ -9,7 +9,7 @@ use lib.Ieee.{nan}
 use lib.ListN.{length, getD}
 use Rattle.common.specs.Lists.{stretch}
 use Rattle.common.specs.Matrices.{cell}
-use Rattle.chebyshev.specs.Polynomials.{T}
+use Rattle.polynomial_columns.specs.Recurrence.{T}
 use Rattle.common.proofs.Matrices.{next-column, column-fits}
 use Rattle.chebyshev.proofs.Columns.{values-filled, columns-all}
 use Rattle.chebyshev.proofs.polynomials.fill_polynomials.Statement.{statement}

@@ -1,11 +1,10 @@
--- What the private functions speak of; no public contract cites it.
+-- What a column holds, by its number and by its place in the buffer; no public contract cites it.
 use Prim.Native.Nat.{ℕ, zero, suc, _+_, _-_}
 use mathlib.Core.List.{List}
 use lib.Ieee.{Float, nan}
 use lib.ListN.{getD}
 use Rattle.common.specs.Floats.{zero₆₄, one₆₄}
-use Rattle.chebyshev.specs.Polynomials.{nextT, nextT′}
-use Rattle.chebyshev.specs.Second.{nextT″}
+use Rattle.polynomial_columns.specs.Recurrence.{nextT, nextT′, nextT″}
 
 -- A COLUMN of a recurrence, by its number: the first, the second, and each later one from the two before it
 unfoldable pub columnOf : (first second later : ℕ → Float) → (j : ℕ) → ℕ → Float

@@ -1,13 +1,13 @@
--- `chebyshev::polynomials::both_columns` meets its contract: by the column's number. Assumes nothing.
+-- `polynomial_columns::both_columns` meets its contract: by the column's number. Assumes nothing.
 use mathlib.Core.Path.{_≡_, sym, ap, _∙_}
 use mathlib.Core.List.{List}
 use Prim.Native.Nat.{ℕ}
 use lib.Ieee.{Float}
 use Rattle.common.specs.Lists.{stretch}
-use Rattle.chebyshev.proofs.Columns.{two-before, is-first, is-second, is-later}
+use Rattle.polynomial_columns.proofs.Numbers.{two-before, is-first, is-second, is-later}
 use borrow.Author.Needs.{needs}
-use Rattle.chebyshev.proofs.polynomials.both_columns.Statement.{statement}
-use Rattle.chebyshev.proofs.polynomials.both_columns.Tie as tie
+use Rattle.polynomial_columns.proofs.both_columns.Statement.{statement}
+use Rattle.polynomial_columns.proofs.both_columns.Tie as tie
 
 -- the same column under its number
 in-place : (at rows : ℕ) (l : List Float) (f g : ℕ → Float) → g ≡ f → stretch at rows f l ≡ stretch at rows g l

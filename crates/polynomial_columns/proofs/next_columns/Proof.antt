@@ -1,4 +1,4 @@
--- `chebyshev::polynomials::next_columns` meets its contract. The loop keeps `Filling` of both buffers: i rows hold the next values, and
+-- `polynomial_columns::next_columns` meets its contract. The loop keeps `Filling` of both buffers: i rows hold the next values, and
 -- the columns before are as they were. Assumes nothing.
 use mathlib.Core.Path.{_≡_, refl}
 use Prim.Native.Nat.{_+_, _-_}
@@ -6,10 +6,10 @@ use native.Mathlib.Omega.{arith}
 use lib.Ieee.{nan}
 use lib.ListN.{getD}
 use Rattle.common.proofs.Fill.{Filling, filling-none, filling-more, filling-done, filling-before}
-use Rattle.chebyshev.specs.Working.{laterT, laterT′}
+use Rattle.polynomial_columns.specs.Working.{laterT, laterT′}
 use borrow.Author.Needs.{needs}
-use Rattle.chebyshev.proofs.polynomials.next_columns.Statement.{statement}
-use Rattle.chebyshev.proofs.polynomials.next_columns.Tie as tie
+use Rattle.polynomial_columns.proofs.next_columns.Statement.{statement}
+use Rattle.polynomial_columns.proofs.next_columns.Tie as tie
 
 abbrev Inv-loop : tie.InvT-loop
 Inv-loop rows points at tn₀ dtn₀ before last i₀ tn dtn i = Filling at rows (laterT rows points tn₀ at) tn₀ tn i

@@ -1,15 +1,15 @@
--- `chebyshev::second::three_columns` meets its contract: by the column's number. Assumes nothing.
+-- `polynomial_columns::three_columns` meets its contract: by the column's number. Assumes nothing.
 use mathlib.Core.Path.{_≡_, _∙_}
 use mathlib.Core.List.{List}
 use Prim.Native.Nat.{ℕ}
 use native.Mathlib.Omega.{arith}
 use lib.Ieee.{Float}
 use Rattle.common.specs.Lists.{stretch}
-use Rattle.chebyshev.proofs.Columns.{two-before, is-later}
-use Rattle.chebyshev.proofs.Seconds.{is-early}
+use Rattle.polynomial_columns.proofs.Numbers.{two-before, is-later}
+use Rattle.polynomial_columns.proofs.Numbers.{is-early}
 use borrow.Author.Needs.{needs}
-use Rattle.chebyshev.proofs.second.three_columns.Statement.{statement}
-use Rattle.chebyshev.proofs.second.three_columns.Tie as tie
+use Rattle.polynomial_columns.proofs.three_columns.Statement.{statement}
+use Rattle.polynomial_columns.proofs.three_columns.Tie as tie
 
 -- the same column under its number
 in-place : (at rows : ℕ) (l : List Float) (f g : ℕ → Float) → g ≡ f → stretch at rows f l ≡ stretch at rows g l

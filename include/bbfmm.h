@@ -317,50 +317,6 @@ uint8_t bbfmm_graham_ratios(
     const double *oxygen, size_t oxygen_length, double *values, size_t values_length, double *factors, size_t factors_length,
     uint8_t *answers, size_t answers_length, double *ratios, size_t ratios_length);
 
-/* EXCHANGE */
-
-/*
- * The calls below take blocks from Matrix Market texts and back: array format, integer field, general symmetry, entries by columns.
- * They answer number + 256 * line. With several faults the one on the earliest line is told, before any BBFMM_WRONG_LENGTH, whose line
- * is 0.
- *
- * A text is its lines, each ended by a newline, byte 10; the last newline may lack. The first line is
- * `%%MatrixMarket matrix array integer general`, the four words after the banner in any letter case. Then come comments, which begin
- * with %, and blank lines, which have nothing or spaces only; the size line, rows and columns, 0 to 1,024 each, parted by spaces; and
- * the entries, one a line, each an optional minus and digits, at most 2^53 in size. Nothing else stands in a line, and nothing
- * follows the entries.
- */
-
-/*
- * How many rows and columns the block of a text has. What follows the size line is not looked at.
- * text: any bytes.
- * sizes: 2 entries. They become the rows and the columns.
- * Refuses with 13, 14, 7, in this order.
- */
-uint64_t bbfmm_block_size(const uint8_t *text, size_t text_length, size_t *sizes, size_t sizes_length);
-
-/*
- * Reads the block of a text.
- * text: any bytes.
- * block: rows by columns. Each entry becomes its number, of which nothing is rounded; -0 becomes +0.0.
- * sizes: 2 entries. They become the rows and the columns.
- * Refuses with 13, 14, 15, 16, in the order of lines; then with 7.
- */
-uint64_t bbfmm_read_block(
-    const uint8_t *text, size_t text_length, double *block, size_t block_length, size_t *sizes, size_t sizes_length);
-
-/*
- * Writes a block as a text, which bbfmm_read_block reads as the same block.
- * block: rows by columns.
- * text: at least as many bytes as are written. Those past them stay as lent.
- * written: 1 entry. It becomes how many bytes are written.
- * Refuses with 14 at line 2; then with 7 for the block; then with 15 at the line that the entry would have; then with 7 for the text
- * and for written.
- */
-uint64_t bbfmm_write_block(
-    size_t rows, size_t columns, const double *block, size_t block_length, uint8_t *text, size_t text_length, size_t *written,
-    size_t written_length);
-
 /* CHOICES */
 
 /*
@@ -413,6 +369,50 @@ uint8_t bbfmm_aca_partial_pivoting(
     size_t u_length, double *v, size_t v_length, uint16_t *row_list, size_t row_list_length, uint16_t *column_list,
     size_t column_list_length, double *row, size_t row_length, double *column, size_t column_length, size_t *counts,
     size_t counts_length, double *numbers, size_t numbers_length);
+
+/* EXCHANGE */
+
+/*
+ * The calls below take blocks from Matrix Market texts and back: array format, integer field, general symmetry, entries by columns.
+ * They answer number + 256 * line. With several faults the one on the earliest line is told, before any BBFMM_WRONG_LENGTH, whose line
+ * is 0.
+ *
+ * A text is its lines, each ended by a newline, byte 10; the last newline may lack. The first line is
+ * `%%MatrixMarket matrix array integer general`, the four words after the banner in any letter case. Then come comments, which begin
+ * with %, and blank lines, which have nothing or spaces only; the size line, rows and columns, 0 to 1,024 each, parted by spaces; and
+ * the entries, one a line, each an optional minus and digits, at most 2^53 in size. Nothing else stands in a line, and nothing
+ * follows the entries.
+ */
+
+/*
+ * How many rows and columns the block of a text has. What follows the size line is not looked at.
+ * text: any bytes.
+ * sizes: 2 entries. They become the rows and the columns.
+ * Refuses with 13, 14, 7, in this order.
+ */
+uint64_t bbfmm_block_size(const uint8_t *text, size_t text_length, size_t *sizes, size_t sizes_length);
+
+/*
+ * Reads the block of a text.
+ * text: any bytes.
+ * block: rows by columns. Each entry becomes its number, of which nothing is rounded; -0 becomes +0.0.
+ * sizes: 2 entries. They become the rows and the columns.
+ * Refuses with 13, 14, 15, 16, in the order of lines; then with 7.
+ */
+uint64_t bbfmm_read_block(
+    const uint8_t *text, size_t text_length, double *block, size_t block_length, size_t *sizes, size_t sizes_length);
+
+/*
+ * Writes a block as a text, which bbfmm_read_block reads as the same block.
+ * block: rows by columns.
+ * text: at least as many bytes as are written. Those past them stay as lent.
+ * written: 1 entry. It becomes how many bytes are written.
+ * Refuses with 14 at line 2; then with 7 for the block; then with 15 at the line that the entry would have; then with 7 for the text
+ * and for written.
+ */
+uint64_t bbfmm_write_block(
+    size_t rows, size_t columns, const double *block, size_t block_length, uint8_t *text, size_t text_length, size_t *written,
+    size_t written_length);
 
 #ifdef __cplusplus
 }

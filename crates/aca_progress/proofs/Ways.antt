@@ -52,18 +52,10 @@ module _ (b : Block) (s : Progress) (f : Found) where
   unfolding columnRead rowRead residual multiplied
   row-long = length-tabulate _ _ ∙ length-tabulate _ _
 
-  pub term-rank : term .rank ≡ s .rank + 1
-  unfolding weighed grown
-  term-rank = refl
-
   -- the row to read next is one of the block's
   pub next-in : 0 < b .rows → term .next < b .rows
   unfolding weighed grown
   next-in some = rw column-long at (argmax-in (down .column) (unread (down .rows)) (rw column-long some))
-
-  pub chosen-in : 0 < b .columns → chosen .place < b .columns
-  unfolding pivot
-  chosen-in some = rw across-long at (argmax-in (across .row) (unread (across .columns)) (rw across-long some))
 
 -- THE WAYS
 

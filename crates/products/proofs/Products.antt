@@ -35,9 +35,6 @@ module _ {A : Type 0} (a b c : A) where
   each-three P x y z (suc zero) = y
   each-three P x y z (suc (suc m)) = z
 
-  pub three-cong : (a' b' c' : A) → a ≡ a' → b ≡ b' → c ≡ c' → three a b c ≡ three a' b' c'
-  three-cong a' b' c' x y z = rw (x, y, z)
-
 -- THE AXES of a product that starts with one of them
 
 pub second-below : (D g : ℕ) → 1 ≤ D → secondAxis D g < D

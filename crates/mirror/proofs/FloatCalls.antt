@@ -27,7 +27,7 @@ use Rattle.turn.proofs.Nodes.{turned-below}
 use Rattle.turn.proofs.References.{reference-below}
 use Rattle.turn.proofs.Right.{case-below}
 use Rattle.turn.proofs.RightCalls.{look-up-taken, filled}
-use Rattle.nodes.specs.Nodes.{node}
+use Rattle.node_rows.specs.Rows.{node}
 use Rattle.nodes.specs.Sets.{mirrored, setCall}
 use Rattle.nodes.proofs.Calls.{nodes-taken, nodes-done}
 use Rattle.nodes.proofs.SetCalls.{set-mirrored}

@@ -9,7 +9,7 @@ use Rattle.common.specs.Floats.{zero₆₄, half₆₄, times}
 use Rattle.common.proofs.Cases.{by-lt}
 use Rattle.floats.specs.Signs.{Opposite, zeros}
 use Rattle.floats.proofs.Opposites.{neg-opposite, opposite-of-neg, mul-opposite, add-opposite, sub-opposite, ofInt-opposite}
-use Rattle.nodes.specs.Nodes.{node}
+use Rattle.node_rows.specs.Rows.{node}
 use Rattle.nodes.specs.Sets.{mirrored}
 use Rattle.nodes.proofs.Mirror.{mirrored-upper, mirrored-lower, mirrored-middle}
 use Rattle.points.specs.Points.{onTarget, onSource}

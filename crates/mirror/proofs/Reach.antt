@@ -20,7 +20,7 @@ use Rattle.floats.specs.Sizes.{SameSize}
 use Rattle.floats.proofs.Bits.{equal-bits}
 use Rattle.floats.proofs.Bounds.{most-more, most-number, most-finite, mul-most, add-most, sub-most, ofInt-most}
 use Rattle.points.specs.Points.{onTarget, onSource}
-use Rattle.nodes.specs.Nodes.{entry}
+use Rattle.node_rows.specs.Rows.{entry}
 use Rattle.nodes.specs.Sets.{mirrored}
 use Rattle.mirror.specs.FloatTurns.{difference}
 

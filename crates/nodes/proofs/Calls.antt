@@ -10,7 +10,8 @@ use Rattle.common.specs.Lists.{tabulate}
 use Rattle.common.specs.Refusals.{orderNumber}
 use Rattle.common.proofs.Cases.{inside}
 use Rattle.common.proofs.Limits.{order-in, order-out, call-refused, call-done, passed, order-passed}
-use Rattle.nodes.specs.Nodes.{node, nodesNumber, nodesCall}
+use Rattle.node_rows.specs.Rows.{node}
+use Rattle.nodes.specs.Nodes.{nodesNumber, nodesCall}
 
 module _ (p n : ℕ) where
   pub nodes-order : (orderNumber p ≡ 0 → ⊥) → orderNumber p ≡ nodesNumber p n

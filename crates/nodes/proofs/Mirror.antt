@@ -5,7 +5,7 @@ use native.Mathlib.Omega.{arith}
 use lib.Ieee.{neg}
 use borrow.Author.Tests.{lt-ltb, le-ltb}
 use Rattle.common.specs.Floats.{zero₆₄}
-use Rattle.nodes.specs.Nodes.{node}
+use Rattle.node_rows.specs.Rows.{node}
 use Rattle.nodes.specs.Sets.{mirrored}
 
 module _ (p i : ℕ) where

@@ -11,7 +11,7 @@ use Rattle.common.specs.Floats.{zero₆₄}
 use Rattle.common.specs.Lists.{tabulate, stretch}
 use Rattle.common.proofs.Cases.{by-lt}
 use Rattle.common.proofs.Fill.{length-tabulate, getD-tabulate, stretch-length, stretch-more, fill-read, fill-after, Filling, filling-done}
-use Rattle.nodes.specs.Nodes.{node}
+use Rattle.node_rows.specs.Rows.{node}
 use Rattle.nodes.specs.Sets.{mirrored}
 use Rattle.nodes.proofs.Mirror.{mirrored-upper, mirrored-lower, mirrored-middle}
 

@@ -1,21 +1,17 @@
 -- The rule of the nodes at every node of both sets, by one test that antt computes, over any set of nodes. Assumes nothing.
-use mathlib.Core.Path.{_≡_, refl, sym, _∙_}
+use mathlib.Core.Path.{_≡_, refl, sym}
 use mathlib.Core.Bool.{Bool, true, false, cond, _&&_, and-eq-true-iff}
-use mathlib.Core.List.{List}
 use Prim.Native.Nat.{ℕ, zero, suc, _^_, _<_, _≤_}
 use native.Mathlib.Nat.{not-suc-le-zero}
 use native.Mathlib.Omega.{arith}
 use lib.Dec.{T, ltb}
 use lib.IntN.{pos, _+ℤ_, _-ℤ_, _*ℤ_}
 use lib.Signed.{ltZ, ltZ-yes}
-use lib.Ieee.{Float, nan, neg, ofBits}
-use lib.ListN.{length, getD}
+use lib.Ieee.{Float, neg, ofBits}
 use borrow.Author.Tests.{lt-ltb}
-use Rattle.common.specs.Lists.{tabulate, stretch}
 use Rattle.common.specs.Tests.{each}
-use Rattle.common.proofs.Fill.{getD-tabulate, tabulate-cong, fill-all}
 use Rattle.common.proofs.Tests.{each-at}
-use Rattle.nodes.specs.Nodes.{entry, node}
+use Rattle.node_rows.specs.Rows.{entry}
 use Rattle.nodes.specs.Sets.{mirrored, nodeOf}
 use Rattle.nodes.specs.Rule.{one, gap, margin, enlarged, whole, chebyshev, opposite, place, Node}
 
@@ -73,10 +69,3 @@ all-right = refl
 
 pub nodes-right : (set p i : ℕ) → set < 2 → 1 ≤ p → p ≤ 16 → i < p → Node (nodeOf set) p i
 nodes-right set p i known = rule-of (nodeOf set) (each-at 2 (λ k. allRight (nodeOf k)) all-right set known) p i
-
--- A ROW of the constant table: a call has copied it, and it holds the nodes of its order
-pub row-right : (p k : ℕ) (nodes after : List Float) → p ≡ k → length nodes ≡ p →
-    after ≡ stretch 0 k (λ i. getD (tabulate k (node k)) i nan) nodes →
-    after ≡ tabulate p (node p)
-row-right p k nodes after e long made =
-    rw e (made ∙ fill-all k _ nodes (long ∙ e) ∙ tabulate-cong k _ (node k) (λ i h. getD-tabulate k (node k) i nan h))

@@ -12,7 +12,8 @@ use Rattle.common.specs.Lists.{tabulate}
 use Rattle.common.specs.Refusals.{noSet, unless, isOrder, left}
 use Rattle.common.proofs.Cases.{inside, by-bool}
 use Rattle.common.proofs.Limits.{left-done, left-refused, call-refused, call-done}
-use Rattle.nodes.specs.Nodes.{node, nodesNumber, nodesCall}
+use Rattle.node_rows.specs.Rows.{node}
+use Rattle.nodes.specs.Nodes.{nodesNumber, nodesCall}
 use Rattle.nodes.specs.Sets.{mirrored, nodeOf, setNumber, setCall}
 use Rattle.nodes.proofs.Calls.{nodes-accepted}
 

@@ -8,7 +8,7 @@ use lib.ListN.{length}
 use Rattle.common.specs.Floats.{zero₆₄}
 use Rattle.common.specs.Lists.{tabulate}
 use Rattle.common.specs.Refusals.{noOrder, wrongLength, noSet, unless, isOrder, left}
-use Rattle.nodes.specs.Nodes.{node}
+use Rattle.node_rows.specs.Rows.{node}
 
 -- MIRROR-EXACT: the upper half of the Rust's nodes, their exact negations below, and +0.0 in the middle of an odd order
 unfoldable pub mirrored : (p i : ℕ) → Float

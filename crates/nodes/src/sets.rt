@@ -3,7 +3,7 @@ ghost use mathlib.Core.Path.{_≡_};
 ghost use Prim.Native.Nat.{_≤_};
 ghost use lib.ListN.{length};
 ghost use Rattle.common.specs.Lists.{tabulate};
-ghost use Rattle.nodes.specs.Nodes.{node};
+ghost use Rattle.node_rows.specs.Rows.{node};
 ghost use Rattle.nodes.specs.Sets.{mirrored, setCall};
 use crate::generate_chebyshev_nodes;
 use crate::nodes_number;

@@ -4,7 +4,7 @@ use mathlib.Core.Path.{sym, ap, _∙_}
 use borrow.Author.Needs.{needs}
 use lib.ListN.{length}
 use Rattle.common.proofs.Fill.{length-tabulate}
-use Rattle.nodes.specs.Nodes.{node}
+use Rattle.node_rows.specs.Rows.{node}
 use Rattle.nodes.proofs.SetCalls.{set-refused, set-unknown, default-refused, default-done, set-mirrored, set-plain}
 use Rattle.nodes.proofs.sets.generate_node_set.Statement.{statement}
 use Rattle.nodes.proofs.sets.generate_node_set.Tie as tie

@@ -1,12 +1,12 @@
--- `nodes::fill_higher_order` meets its contract: every row by one law, computed from its bits. Assumes nothing.
+-- `node_rows::fill_higher_order` meets its contract: every row by one law, computed from its bits. Assumes nothing.
 use borrow.Author.Needs.{needs}
 use mathlib.Core.Path.{_≡_}
 use Prim.Native.Nat.{_≤_}
 use native.Mathlib.Omega.{arith}
-use Rattle.nodes.specs.Nodes.{bits, entry}
-use Rattle.nodes.proofs.NodesRight.{row-right}
-use Rattle.nodes.proofs.fill_higher_order.Statement.{statement}
-use Rattle.nodes.proofs.fill_higher_order.Tie as tie
+use Rattle.node_rows.specs.Rows.{bits, entry}
+use Rattle.node_rows.proofs.Rows.{row-right}
+use Rattle.node_rows.proofs.fill_higher_order.Statement.{statement}
+use Rattle.node_rows.proofs.fill_higher_order.Tie as tie
 
 -- past the other rows the order is 16
 last : (c : tie.At-match-rest) → c .before .before .args .order ≡ 16

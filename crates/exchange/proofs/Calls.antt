@@ -2,7 +2,8 @@
 use mathlib.Core.Path.{_≡_, refl, sym, ap, subst, _∙_}
 use mathlib.Core.List.{List, [], map}
 use mathlib.Core.Option.{Option, some, none}
-use Prim.Native.Nat.{ℕ, _<_, _≤_}
+use Prim.Native.Nat.{ℕ, _*_, _<_, _≤_}
+use native.Mathlib.Nat.{mul-le-mul}
 use native.Mathlib.Omega.{arith}
 use lib.IntN.{ℤ}
 use lib.Ieee.{Float}
@@ -20,10 +21,14 @@ use Rattle.exchange_lines.specs.declared.Cursor.{Cursor}
 use Rattle.exchange_lines.specs.declared.Opening.{Opening}
 use Rattle.exchange_lines.specs.declared.Opening.the-variants as begun
 use Rattle.exchange_lines.specs.Working.{Stands, openedAt, meant, Sound}
-use Rattle.exchange.specs.declared.reading.Check.{Check}
-use Rattle.exchange.specs.declared.reading.Check.the-variants.{Fine, Fault}
-use Rattle.exchange.specs.Working.{isFit, valueAt, checked}
-use Rattle.exchange.proofs.Checks.{Valid, valid}
+use Rattle.exchange_entries.specs.declared.Check.{Check}
+use Rattle.exchange_entries.specs.declared.Check.the-variants.{Fine, Fault}
+use Rattle.exchange_entries.specs.Working.{isFit, valueAt, checked}
+use Rattle.exchange_entries.proofs.Checks.{Valid, valid}
+
+-- a block of a size that is taken has so many entries at most
+pub product-fits : (m n : ℕ) → m ≤ mostEntries → n ≤ mostEntries → m * n ≤ 1048576
+product-fits m n h k = mul-le-mul {n₁ = m} {m₁ = n} {n₂ = 1024} {m₂ = 1024} h k
 
 -- AFTER THE CHECK
 

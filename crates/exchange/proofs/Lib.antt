@@ -1,9 +1,3 @@
-pub mod Scans
-pub mod Signs
-pub mod Lengths
-pub mod Digits
-pub mod Checks
-pub mod Floats
 pub mod Calls
-pub mod Spellings
+pub mod WriteCalls
 pub mod Determined

@@ -1,7 +1,5 @@
 // Blocks of whole numbers as Matrix Market array files, integer and general, entries by columns.
-mod entries;
 mod reading;
-mod wholes;
 mod writing;
 
 pub use reading::block_size;

@@ -1,130 +1,14 @@
 // Writing: one pass over the block tests its entries and adds up the text's length, so that a refusal leaves the text as it was lent.
 ghost use mathlib.Core.Path.{_≡_};
 ghost use mathlib.Core.List.{_++_};
-ghost use Prim.Native.Nat.{_+_, _≤_};
+ghost use Prim.Native.Nat.{_≤_};
 ghost use lib.ListN.{length};
-ghost use lib.Seq.{sets};
-ghost use Rattle.text.specs.Text.{decimal, put};
-ghost use Rattle.exchange_format.specs.Writing.{wholes, fittingText};
+ghost use Rattle.exchange_format.specs.Writing.{fittingText};
 ghost use Rattle.exchange_format.specs.Calls.{writtenOf, writeCall};
+ghost use Rattle.exchange_writing.specs.Working.{spelled, headText};
 ghost use Rattle.exchange.specs.Told.{toldWritten};
-ghost use Rattle.exchange.specs.Working.{measured, minus, signedLine, spelt, spelled, headText};
 use crate::Written;
-use crate::wholes;
-
-// How long the lines of all entries are; or the first entry's fault.
-enum Total {
-    Long(usize),
-    Fault { number: u8, line: usize },
-}
-
-// The first entry stands in the third line.
-fn measure(block: &[f64]) -> Total
-    requires { ⌜ length (now block) ≤ 1048576 ⌝ }
-    ensures { λ r. ⌜ r ≡ measured (wholes 3 (now (block .entry))) ⌝ }
-{
-    let mut i = 0;
-    let mut line = 3;
-    let mut sum = 0;
-    while i < block.len() {
-        match wholes::whole_of(block[i]) {
-            wholes::Whole::Not => {
-                return Total::Fault {
-                    number: common::BAD_ENTRY,
-                    line,
-                };
-            }
-            wholes::Whole::Number { is_negative, size } => {
-                sum = sum + wholes::line_length(is_negative, size);
-                i += 1;
-                line += 1;
-            }
-        }
-    }
-    Total::Long(sum)
-}
-
-// A minus, where it is asked.
-fn put_minus(text: &mut [u8], to: usize, is_negative: bool) -> usize
-    ensures { λ r. ⌜ (r, now (text .exit)) ≡ put to (minus «is_negative») (now (text .entry)) ⌝ }
-{
-    if is_negative {
-        return text::put_byte(text, to, b'-');
-    }
-    to
-}
-
-// The digits of a number, of which there are so many, each stored where it belongs, from the last on.
-fn put_digits(text: &mut [u8], to: usize, count: usize, n: u64)
-    requires { ⌜ (count ≡ length (decimal n)) × (to + count ≤ length (now text)) ⌝ }
-    ensures { λ _. ⌜ now (text .exit) ≡ sets (now (text .entry)) to (decimal n) ⌝ }
-{
-    let mut rest = n;
-    let mut i = to + count - 1;
-    while 10 <= rest {
-        text[i] = b'0' + (rest % 10) as u8;
-        rest = rest / 10;
-        i -= 1;
-    }
-    text[i] = b'0' + rest as u8;
-}
-
-// A number in decimal, as `text` puts it, but with no copy where all its digits have room.
-fn put_decimal(text: &mut [u8], to: usize, n: u64) -> usize
-    ensures { λ r. ⌜ (r, now (text .exit)) ≡ put to (decimal n) (now (text .entry)) ⌝ }
-{
-    let count = wholes::digit_count(n);
-    if to <= text.len() {
-        if count <= text.len() - to {
-            put_digits(text, to, count, n);
-            return to + count;
-        }
-    }
-    text::put_number(text, to, n)
-}
-
-// A number with its sign, and the line's end.
-fn put_signed(text: &mut [u8], to: usize, is_negative: bool, size: u64) -> usize
-    ensures { λ r. ⌜ (r, now (text .exit)) ≡ put to (signedLine «is_negative» size) (now (text .entry)) ⌝ }
-{
-    let after_minus = put_minus(text, to, is_negative);
-    let after_digits = put_decimal(text, after_minus, size);
-    text::put_byte(text, after_digits, b'\n')
-}
-
-// An entry's line.
-fn put_entry(text: &mut [u8], to: usize, x: f64) -> usize
-    ensures { λ r. ⌜ (r, now (text .exit)) ≡ put to (spelt x) (now (text .entry)) ⌝ }
-{
-    match wholes::whole_of(x) {
-        wholes::Whole::Not => to,
-        wholes::Whole::Number { is_negative, size } => put_signed(text, to, is_negative, size),
-    }
-}
-
-// A line an entry.
-fn put_entries(text: &mut [u8], to: usize, block: &[f64]) -> usize
-    ensures { λ r. ⌜ (r, now (text .exit)) ≡ put to (spelled (now (block .entry))) (now (text .entry)) ⌝ }
-{
-    let mut at = to;
-    let mut i = 0;
-    while i < block.len() {
-        at = put_entry(text, at, block[i]);
-        i += 1;
-    }
-    at
-}
-
-// The first line and the size line.
-fn put_head(text: &mut [u8], rows: usize, columns: usize) -> usize
-    ensures { λ r. ⌜ (r, now (text .exit)) ≡ put 0 (headText rows columns) (now (text .entry)) ⌝ }
-{
-    let after_first = text::put(text, 0, b"%%MatrixMarket matrix array integer general\n");
-    let after_rows = text::put_number(text, after_first, rows as u64);
-    let after_space = text::put_byte(text, after_rows, b' ');
-    let after_columns = text::put_number(text, after_space, columns as u64);
-    text::put_byte(text, after_columns, b'\n')
-}
+use exchange_writing::Total;
 
 // All lines, where they fit; those of the entries are so long together.
 fn write_lines(rows: usize, columns: usize, block: &[f64], long: usize, text: &mut [u8]) -> Written
@@ -132,15 +16,17 @@ fn write_lines(rows: usize, columns: usize, block: &[f64], long: usize, text: &m
     ensures { λ r. ⌜ (toldWritten r, now (text .exit)) ≡ writtenOf (now (text .entry))
         (fittingText (length (now (text .entry))) (headText rows columns ++ spelled (now (block .entry)))) ⌝ }
 {
-    let head = wholes::digit_count(rows as u64) + wholes::digit_count(columns as u64) + 46;
+    let head = exchange_writing::digit_count(rows as u64)
+        + exchange_writing::digit_count(columns as u64)
+        + 46;
     if text.len() < head + long {
         return Written::Refused {
             number: common::WRONG_LENGTH,
             line: 0,
         };
     }
-    let after = put_head(text, rows, columns);
-    Written::Bytes(put_entries(text, after, block))
+    let after = exchange_writing::put_head(text, rows, columns);
+    Written::Bytes(exchange_writing::put_entries(text, after, block))
 }
 
 // Writes a block into a text that is lent, whose bytes past what is written stay.
@@ -165,7 +51,7 @@ pub fn write_block(rows: usize, columns: usize, block: &[f64], text: &mut [u8]) 
             line: 0,
         };
     }
-    match measure(block) {
+    match exchange_writing::measure(block) {
         Total::Fault { number, line } => Written::Refused { number, line },
         Total::Long(long) => write_lines(rows, columns, block, long, text),
     }

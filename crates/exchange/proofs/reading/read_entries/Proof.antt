@@ -1,8 +1,7 @@
 -- `exchange::reading::read_entries` meets its contract: a fault, a block of another length, or the values of the lines. Assumes nothing.
 use native.Mathlib.Omega.{arith}
 use Rattle.exchange_lines.specs.Working.{openedAt}
-use Rattle.exchange.proofs.Checks.{product-fits}
-use Rattle.exchange.proofs.Calls.{read-fault, read-length, read-fit, read-good}
+use Rattle.exchange.proofs.Calls.{product-fits, read-fault, read-length, read-fit, read-good}
 use borrow.Author.Needs.{needs}
 use Rattle.exchange.proofs.reading.read_entries.Statement.{statement}
 use Rattle.exchange.proofs.reading.read_entries.Tie as tie

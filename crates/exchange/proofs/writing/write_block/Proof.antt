@@ -1,7 +1,7 @@
 -- `exchange::writing::write_block` meets its contract: what the size, the length or an entry refuses, or the lines. Assumes nothing.
 use native.Mathlib.Omega.{arith}
-use Rattle.exchange.proofs.Checks.{product-fits}
-use Rattle.exchange.proofs.Spellings.{rows-over, columns-over, block-other, block-fault, block-long, block-good}
+use Rattle.exchange.proofs.Calls.{product-fits}
+use Rattle.exchange.proofs.WriteCalls.{rows-over, columns-over, block-other, block-fault, block-long, block-good}
 use borrow.Author.Needs.{needs}
 use Rattle.exchange.proofs.writing.write_block.Statement.{statement}
 use Rattle.exchange.proofs.writing.write_block.Tie as tie

@@ -7,8 +7,9 @@ use lib.ListN.{length, length-append}
 use Rattle.text.specs.Text.{decimal}
 use Rattle.text.proofs.Numbers.{decimal-length}
 use Rattle.text.proofs.Putting.{put-then}
-use Rattle.exchange.specs.Working.{headText, spelled}
-use Rattle.exchange.proofs.Spellings.{head-length, text-short, text-fits}
+use Rattle.exchange_writing.specs.Working.{headText, spelled}
+use Rattle.exchange_writing.proofs.Spellings.{head-length}
+use Rattle.exchange.proofs.WriteCalls.{text-short, text-fits}
 use borrow.Author.Needs.{needs}
 use Rattle.exchange.proofs.writing.write_lines.Statement.{statement}
 use Rattle.exchange.proofs.writing.write_lines.Tie as tie

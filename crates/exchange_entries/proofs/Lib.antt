@@ -1,0 +1,4 @@
+pub mod Scans
+pub mod Signs
+pub mod Checks
+pub mod Determined

@@ -1,8 +1,8 @@
 # Draws the lines of proof that each request brought and took away, from the table of docs/landings/README.md.
 BEGIN {
     FS = " *\\| *"
-    print "<svg xmlns=\"http://www.w3.org/2000/svg\" viewBox=\"0 0 760 470\" font-family=\"sans-serif\">"
-    print "<rect width=\"760\" height=\"470\" fill=\"white\"/>"
+    print "<svg xmlns=\"http://www.w3.org/2000/svg\" viewBox=\"0 0 760 500\" font-family=\"sans-serif\">"
+    print "<rect width=\"760\" height=\"500\" fill=\"white\"/>"
     print "<text x=\"380\" y=\"24\" font-size=\"15\" text-anchor=\"middle\">Lines of proof that each request brought and took away</text>"
     legend(330, "#30588c", "in")
     legend(390, "#b03030", "out: what stood and went")
@@ -14,8 +14,8 @@ function legend(x, colour, words) {
 }
 
 function bar(y, lines, colour) {
-    printf "<rect x=\"310\" y=\"%d\" width=\"%g\" height=\"10\" fill=\"%s\"/>\n", y, lines / 15.5, colour
-    printf "<text x=\"%g\" y=\"%d\" font-size=\"11\">%d</text>\n", 315 + lines / 15.5, y + 9, lines
+    printf "<rect x=\"310\" y=\"%d\" width=\"%g\" height=\"10\" fill=\"%s\"/>\n", y, lines / 24, colour
+    printf "<text x=\"%g\" y=\"%d\" font-size=\"11\">%d</text>\n", 315 + lines / 24, y + 9, lines
 }
 
 /^\| \[E[0-9]+\]/ {

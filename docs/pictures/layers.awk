@@ -1,5 +1,6 @@
-# Draws the crates as layers, from crates.txt: each stands above all that it uses, and a line leads to each crate that it uses at once. A
-# crate that uses more than half of the others is a bar at the top, and one that more than half use a bar at the bottom, without lines.
+# Draws the crates as layers, from crates.txt: each stands above all that it uses, and a line leads to each crate that it uses at once,
+# dashed where it passes a layer. A crate that uses more than half of the others is a bar at the top, and one that more than half use a
+# bar at the bottom, without lines.
 /^[a-z_]+:/ {
     sub(/:/, "", $1)
     name[++crates] = $1
@@ -72,7 +73,7 @@ function place(l,    i, j, n, row, kept) {
     for (i = 1; i <= crates; i++) {
         if (is_drawn_so(name[i]) && height[name[i]] == l) {
             row[++n] = name[i]
-            wish[name[i]] = wish_of(name[i], 1000 * i / crates)
+            wish[name[i]] = wish_of(name[i], wide * i / crates)
         }
     }
     for (i = 2; i <= n; i++) {
@@ -90,13 +91,20 @@ function place(l,    i, j, n, row, kept) {
 # Pushes the crates of a row apart: to the right, back from the right edge, and on again from the left one.
 function part(row, n,    i, edge) {
     for (i = 2; i <= n; i++) x[row[i]] = larger(x[row[i]], x[row[i - 1]] + apart(row[i - 1], row[i]))
-    edge = 990 - width_of(row[n]) / 2
+    edge = wide - 10 - width_of(row[n]) / 2
     for (i = n; i >= 1; i--) {
         if (x[row[i]] > edge) x[row[i]] = edge
         if (i > 1) edge = x[row[i]] - apart(row[i - 1], row[i])
     }
     x[row[1]] = larger(x[row[1]], 10 + width_of(row[1]) / 2)
     for (i = 2; i <= n; i++) x[row[i]] = larger(x[row[i]], x[row[i - 1]] + apart(row[i - 1], row[i]))
+}
+
+# As wide as the fullest row, with a margin.
+function widest(    i, full, found) {
+    for (i = 1; i <= crates; i++) if (is_drawn_so(name[i])) full[height[name[i]]] += width_of(name[i]) + 8
+    for (i in full) found = larger(found, full[i])
+    return larger(1000, found + 12)
 }
 
 function larger(a, b) { return a > b ? a : b }
@@ -111,22 +119,24 @@ function fill_of(crate) { return inner[crate] ? "#f4f4f4" : "#dbe6f4" }
 END {
     for (i = 1; i <= crates; i++) bar[name[i]] = is_top(name[i]) ? "top" : (is_bottom(name[i]) ? "bottom" : "")
     for (i = 1; i <= crates; i++) if (is_drawn_so(name[i]) && height_of(name[i]) > levels) levels = height[name[i]]
+    wide = widest()
     for (round = 1; round <= 9; round++) for (l = 1; l <= levels; l++) place(l)
     all = 70 * levels + 120
-    printf "<svg xmlns=\"http://www.w3.org/2000/svg\" viewBox=\"0 0 1000 %d\" font-family=\"sans-serif\">\n", all
-    printf "<rect width=\"1000\" height=\"%d\" fill=\"white\"/>\n", all
+    printf "<svg xmlns=\"http://www.w3.org/2000/svg\" viewBox=\"0 0 %d %d\" font-family=\"sans-serif\">\n", wide, all
+    printf "<rect width=\"%d\" height=\"%d\" fill=\"white\"/>\n", wide, all
     for (i = 1; i <= crates; i++) {
         for (j = 1; j <= crates; j++) {
             if (at_once(name[i], name[j])) {
-                printf "<line x1=\"%g\" y1=\"%g\" x2=\"%g\" y2=\"%g\" stroke=\"#89a\"/>\n",
-                    x[name[i]], y[name[i]] + 12, x[name[j]], y[name[j]] - 12
+                printf "<line x1=\"%g\" y1=\"%g\" x2=\"%g\" y2=\"%g\" stroke=\"#89a\"%s/>\n",
+                    x[name[i]], y[name[i]] + 12, x[name[j]], y[name[j]] - 12,
+                    y[name[j]] - y[name[i]] > 70 ? " stroke-dasharray=\"3 4\"" : ""
             }
         }
     }
     for (i = 1; i <= crates; i++) {
         c = name[i]
-        if (bar[c] == "top") box(c, 10, 10 + 30 * tops++, 980, fill_of(c))
-        else if (bar[c] == "bottom") box(c, 10, all - 40, 980, fill_of(c))
+        if (bar[c] == "top") box(c, 10, 10 + 30 * tops++, wide - 20, fill_of(c))
+        else if (bar[c] == "bottom") box(c, 10, all - 40, wide - 20, fill_of(c))
         else box(c, x[c] - width_of(c) / 2, y[c] - 12, width_of(c), fill_of(c))
     }
     print "</svg>"

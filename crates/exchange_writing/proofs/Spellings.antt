@@ -1,26 +1,21 @@
--- The lines of entries, one after the other: how long they are, and that they are the text of the block. Assumes nothing.
+-- The lines of entries, one after the other, and how long they are; and how long the first lines are. Assumes nothing.
 use mathlib.Core.Path.{_≡_, refl, sym, ap, _∙_}
-use mathlib.Core.Bool.{Bool, true, false, and-false}
-use mathlib.Core.List.{List, [], _∷_, _++_, map, append-assoc, append-nil}
+use mathlib.Core.Bool.{Bool, true, false}
+use mathlib.Core.List.{List, [], _∷_, _++_, append-assoc, append-nil}
 use mathlib.Core.Option.{Option, some, none}
 use Prim.Native.Nat.{ℕ, suc, _+_, _-_, _*_, _<_, _≤_, zero-le, min}
 use native.Mathlib.Numerals.{add-one}
 use native.Mathlib.Omega.{arith}
-use lib.Dec.{leb}
 use lib.IntN.{ℤ, pos, negsuc}
 use lib.Ieee.{Float, nan}
 use lib.ListN.{length, getD, take, drop, length-append, drop-of-length-le}
 use lib.Seq.{drop-cons, take-suc, take-all}
-use borrow.Author.Tests.{le-leb, lt-leb, eq-eqb, ne-eqb}
-use Rattle.common.specs.Refusals.{wrongLength, noSize, badEntry, mostEntries}
+use Rattle.common.specs.Refusals.{badEntry}
 use Rattle.text.specs.Text.{decimal, put}
 use Rattle.text.proofs.Numbers.{decimal-length}
-use Rattle.text.proofs.Putting.{put-front}
-use Rattle.exchange_format.specs.Lines.{newline, space}
-use Rattle.exchange_format.specs.Words.{banner, kind, Size}
+use Rattle.exchange_format.specs.Lines.{newline}
 use Rattle.exchange_format.specs.Reading.{Outcome, refuse, give, then, oneMore}
-use Rattle.exchange_format.specs.Writing.{unlines, integer, fileLines, written, wholeOf, wholes, fittingText, writing}
-use Rattle.exchange_format.specs.Calls.{sizeFrom, writtenOf, writeCall}
+use Rattle.exchange_format.specs.Writing.{unlines, integer, wholeOf, wholes}
 use Rattle.exchange_writing.specs.Working.{numberOf, spell, spelt, spelled, minus, signedLine, headText, measured}
 use Rattle.exchange_writing.specs.declared.wholes.Whole.{Whole}
 use Rattle.exchange_writing.specs.declared.wholes.Whole.the-variants.{Number, Not}

@@ -12,7 +12,7 @@ use Rattle.common.specs.Tests.{those}
 use Rattle.vectors.specs.declared.Known.{Known}
 use Rattle.vectors.specs.LookUps.{lookUp, lookUpNumber}
 use Rattle.records.specs.Text.{signed}
-use Rattle.mending.specs.Mending.{found, rightFor, right, differs, changed, kept, blanked, taken, verdictFor, verdict}
+use Rattle.mending_lines.specs.Records.{found, rightFor, right, differs, changed, kept, blanked, taken, verdictFor, verdict}
 use Rattle.mending.proofs.Records.{for-size, for-right, those-same}
 
 -- an all-zero record is blanked with number 1, whatever follows it

@@ -7,7 +7,8 @@ use native.Mathlib.Omega.{arith}
 use native.Mathlib.Nat.{not-suc-le-zero}
 use lib.ListN.{length, take, drop, length-append, length-drop}
 use lib.Seq.{take-at, drop-at, drop-drop, drop-append-le}
-use Rattle.mending.specs.Mending.{right, verdict, kept, line, whole, mendedRecords, mendedFile, tailLine, lines, text}
+use Rattle.mending_lines.specs.Records.{right, verdict, kept, line}
+use Rattle.mending.specs.Mending.{whole, mendedRecords, mendedFile, tailLine, lines, text}
 use Rattle.mending.specs.Promises.{IsRight}
 use Rattle.mending.proofs.Records.{right-size, right-right, is-right, right-front, verdict-front}
 use Rattle.mending.proofs.Verdicts.{kept-unchanged}

@@ -1,9 +1,7 @@
-pub mod Bytes
 pub mod Records
 pub mod Verdicts
 pub mod Files
 pub mod Again
 pub mod Lines
-pub mod Stored
 pub mod Calls
 pub mod Tallies

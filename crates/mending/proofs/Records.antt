@@ -11,9 +11,9 @@ use Rattle.common.specs.Tests.{those}
 use Rattle.vectors.specs.declared.Known.{Known}
 use Rattle.vectors.specs.LookUps.{lookUp, lookUpNumber}
 use Rattle.records.specs.Text.{signed}
-use Rattle.mending.specs.Mending.{found, rightFor, right, differs, changed, verdict}
+use Rattle.mending_lines.specs.Records.{found, rightFor, right, differs, changed, verdict}
 use Rattle.mending.specs.Promises.{LookedUp, IsRight}
-use Rattle.mending.proofs.Bytes.{found-number}
+use Rattle.mending_lines.proofs.Bytes.{found-number}
 
 pub for-size : (f : ℕ × Option Known) (l : List ℕ) → length (rightFor f l) ≡ 8
 unfolding rightFor

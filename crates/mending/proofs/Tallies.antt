@@ -1,58 +1,23 @@
--- A text tells how many records were kept, mended and blanked, and the tallies of the parts of a text add up. Assumes nothing.
-use mathlib.Core.Path.{_≡_, refl, sym, ap, _∙_}
-use mathlib.Core.Bool.{Bool, true, false, cond}
+-- A text tells how many records were kept, mended and blanked. Assumes nothing.
+use mathlib.Core.Path.{_≡_, refl, _∙_}
+use mathlib.Core.Bool.{Bool, false, cond}
 use mathlib.Core.List.{List, [], _∷_, _++_}
 use Prim.Native.Nat.{ℕ, zero, suc, _+_, _-_, _/_, _%_, _<_, _≤_}
 use native.Mathlib.Nat.{mod-lt}
-use native.Mathlib.Numerals.{add-one}
 use native.Mathlib.Omega.{arith}
 use lib.Dec.{eqb, ltb}
-use lib.ListN.{length, getD, take, drop, length-append}
-use lib.Seq.{take-add, take-suc, take-length}
-use borrow.Author.Tests.{eq-eqb, ne-eqb, ltb-true}
+use lib.ListN.{length, drop}
+use borrow.Author.Tests.{ne-eqb, ltb-true}
 use Rattle.common.proofs.Cases.{by-bool}
 use Rattle.common.proofs.Determined.{coincide}
 use Rattle.text.specs.Text.{decimalIn, decimal, spaced, counted}
 use Rattle.records.specs.Text.{short, shortWord}
+use Rattle.mending_counts.specs.Occurrences.{occurs}
+use Rattle.mending_counts.proofs.Occurring.{occurs-append}
 use Rattle.mending.specs.declared.Totals.{Totals}
-use Rattle.mending.specs.Mending.{Verdict, kept, mended, blanked, verdict, mendedWord, blankedWord, places, line}
+use Rattle.mending_lines.specs.Records.{Verdict, kept, mended, blanked, verdict, mendedWord, blankedWord, places, line}
 use Rattle.mending.specs.Mending.{whole, tailLine, lines, text}
-use Rattle.mending.specs.Tallies.{occurs, tallyOf, isKept, isMended, isBlanked, countOf, tallied}
-
--- the tallies of two texts, one after the other, add up
-pub occurs-append : (b : ℕ) (v w : List ℕ) → occurs b (v ++ w) ≡ occurs b v + occurs b w
-unfolding occurs
-occurs-append b [] w = omega arith
-occurs-append b (x ∷ v) w = rw (occurs-append b v w) (omega arith)
-
--- ONE BYTE MORE
-
-module _ (b : ℕ) (l : List ℕ) (i : ℕ) (h : i < length l) where
-  occurs-next : occurs b (take (i + 1) l) ≡ occurs b (take i l) + cond (eqb (getD l i 0) b) 1 0
-  unfolding occurs
-  occurs-next = rw (add-one, take-suc l i 0, occurs-append b (take i l) (getD l i 0 ∷ [])) (omega arith)
-
-  pub occurs-same : {n : ℕ} → n ≡ occurs b (take i l) → getD l i 0 ≡ b → n + 1 ≡ occurs b (take (i + 1) l)
-  occurs-same {n} e q = rw (occurs-next, eq-eqb (getD l i 0) b q, e)
-
-  pub occurs-other : {n : ℕ} → n ≡ occurs b (take i l) → (getD l i 0 ≡ b → ⊥) → n ≡ occurs b (take (i + 1) l)
-  occurs-other {n} e d = rw (occurs-next, ne-eqb (getD l i 0) b d, e) (omega arith)
-
--- a part more
-pub occurs-part : (b : ℕ) (l : List ℕ) (i e : ℕ) {n m : ℕ} → i ≤ e → n ≡ occurs b (take i l) → m ≡ occurs b (take (e - i) (drop i l)) →
-    n + m ≡ occurs b (take e l)
-occurs-part b l i e {n} {m} h p q =
-    let all : i + (e - i) ≡ e = omega arith in
-    let cut : take e l ≡ take i l ++ take (e - i) (drop i l) = ap (λ (k : ℕ). take k l) (sym all) ∙ take-add i (e - i) l in
-    rw (cut, occurs-append b (take i l) (take (e - i) (drop i l)), p, q)
-
-pub occurs-done : (b : ℕ) (l : List ℕ) (i n : ℕ) → i ≡ length l → n ≡ occurs b (take i l) → n ≡ occurs b l
-occurs-done b l i n e h = h ∙ rw (e, take-length)
-
-pub occurs-most : (b : ℕ) (l : List ℕ) → occurs b l ≤ length l
-unfolding occurs
-occurs-most b [] = omega arith
-occurs-most b (x ∷ l) = let less = occurs-most b l in by-bool (eqb x b) (λ e. rw e (omega arith)) (λ e. rw e (omega arith))
+use Rattle.mending.specs.Tallies.{tallyOf, isKept, isMended, isBlanked, countOf, tallied}
 
 -- WHAT A LINE TELLS
 

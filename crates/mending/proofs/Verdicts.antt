@@ -14,7 +14,7 @@ use Rattle.common.specs.Tests.{those, count}
 use Rattle.common.proofs.Cases.{by-lt, by-eq, of-not}
 use Rattle.common.proofs.Tests.{length-those, those-count, those-listed, count-less, Listed}
 use Rattle.vectors.specs.declared.Known.{Known}
-use Rattle.mending.specs.Mending.{found, rightFor, right, differs, changed, kept, mended, blanked, taken, verdictFor, verdict}
+use Rattle.mending_lines.specs.Records.{found, rightFor, right, differs, changed, kept, mended, blanked, taken, verdictFor, verdict}
 use Rattle.mending.specs.Promises.{Named, Exactly}
 use Rattle.mending.proofs.Records.{right-size}
 

@@ -1,4 +1,3 @@
 pub mod Mending
 pub mod Tallies
 pub mod Promises
-pub mod Working

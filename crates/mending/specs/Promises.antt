@@ -6,7 +6,7 @@ use mathlib.Core.Option.{some}
 use Prim.Native.Nat.{ℕ, suc, _<_}
 use lib.ListN.{length, getD, replicate}
 use Rattle.vectors.specs.declared.Known.{Known}
-use Rattle.mending.specs.Mending.{found}
+use Rattle.mending_lines.specs.Records.{found}
 
 -- its vector is taken, and its later bytes are the case, the reference and two zeros
 pub record LookedUp (bytes : List ℕ) : Type 0 where

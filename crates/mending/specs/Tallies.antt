@@ -1,16 +1,12 @@
 -- How many records were kept, mended and blanked: by their verdicts, and as a text tells it.
 use mathlib.Core.Bool.{Bool, true, false, cond}
-use mathlib.Core.List.{List, [], _∷_}
+use mathlib.Core.List.{List}
 use Prim.Native.Nat.{ℕ, zero, suc, _+_}
-use lib.Dec.{eqb}
 use lib.ListN.{drop}
+use Rattle.mending_counts.specs.Occurrences.{occurs}
 use Rattle.mending.specs.declared.Totals.{Totals}
-use Rattle.mending.specs.Mending.{Verdict, kept, mended, blanked, verdict, whole}
-
--- how many bytes of a list are this one
-unfoldable pub occurs : (byte : ℕ) → List ℕ → ℕ
-occurs b [] = 0
-occurs b (x ∷ l) = cond (eqb x b) 1 0 + occurs b l
+use Rattle.mending_lines.specs.Records.{Verdict, kept, mended, blanked, verdict}
+use Rattle.mending.specs.Mending.{whole}
 
 -- as a text tells it, by a letter of each word: the p of "kept", the m of "mended" and the b of "blanked"
 unfoldable pub tallyOf : (text : List ℕ) → Totals

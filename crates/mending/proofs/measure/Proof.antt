@@ -9,8 +9,10 @@ use lib.ListN.{length, drop}
 use Rattle.text.proofs.Putting.{put-length, put-size}
 use Rattle.records.proofs.Answers.{Measured, measured-all, measured-more, measured-less}
 use Rattle.records.proofs.Lines.{short-size}
-use Rattle.mending.specs.Mending.{verdict, line, text}
-use Rattle.mending.proofs.Lines.{line-most, text-record, text-short, text-end}
+use Rattle.mending_lines.specs.Records.{verdict, line}
+use Rattle.mending.specs.Mending.{text}
+use Rattle.mending_lines.proofs.Lines.{line-most}
+use Rattle.mending.proofs.Lines.{text-record, text-short, text-end}
 use borrow.Author.Needs.{needs}
 use Rattle.mending.proofs.measure.Statement.{statement}
 use Rattle.mending.proofs.measure.Tie as tie

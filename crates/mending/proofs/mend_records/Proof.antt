@@ -8,7 +8,8 @@ use lib.ListN.{length, drop}
 use Rattle.text.proofs.Putting.{put-length}
 use Rattle.records.specs.Text.{short}
 use Rattle.records.proofs.Answers.{Reached, begun, onward, reached-all}
-use Rattle.mending.specs.Mending.{right, verdict, line, mendedFile}
+use Rattle.mending_lines.specs.Records.{right, verdict, line}
+use Rattle.mending.specs.Mending.{mendedFile}
 use Rattle.mending.specs.Mending.{text as Mending·text}
 use Rattle.mending.proofs.Calls.{file-done}
 use Rattle.mending.proofs.Lines.{file-record, text-record, file-end, text-short, text-end}

@@ -1,6 +1,6 @@
 # Draws the crates as layers, from crates.txt: each stands above all that it uses, and a line leads to each crate that it uses at once,
-# dashed where it passes a layer. A crate that uses more than half of the others is a bar at the top, and one that more than half use a
-# bar at the bottom, without lines.
+# dashed where it passes a layer. A crate that uses more than two fifths of the others is a bar at the top, and one that more than half
+# use a bar at the bottom, without lines.
 /^[a-z_]+:/ {
     sub(/:/, "", $1)
     name[++crates] = $1
@@ -10,7 +10,7 @@
 
 function is_top(crate,    i, n) {
     for (i = 1; i <= crates; i++) n += (crate, name[i]) in uses
-    return n > crates / 2
+    return n > crates * 2 / 5
 }
 
 function is_bottom(crate,    i, n) {
@@ -129,7 +129,7 @@ END {
             if (at_once(name[i], name[j])) {
                 printf "<line x1=\"%g\" y1=\"%g\" x2=\"%g\" y2=\"%g\" stroke=\"#89a\"%s/>\n",
                     x[name[i]], y[name[i]] + 12, x[name[j]], y[name[j]] - 12,
-                    y[name[j]] - y[name[i]] > 70 ? " stroke-dasharray=\"3 4\"" : ""
+                    (y[name[j]] - y[name[i]] > 70 ? " stroke-dasharray=\"3 4\"" : "")
             }
         }
     }

@@ -44,14 +44,14 @@ CALLS = {
     "graham_ratios": "dimension: usize, order: usize, side: f64, rows: usize, floor: f64, centre: f64 list, "
     "node_polynomials: f64 matrix, points: changed f64 matrix, carbon_monoxide: f64 list, nitrogen: f64 list, oxygen: f64 list, "
     "values: made f64 matrix, factors: made f64 matrix, answers: made u8 list, ratios: made f64 list",
-    "block_size": "text: u8 list, sizes: made usize list",
-    "read_block": "text: u8 list, block: made f64 matrix, sizes: made usize list",
-    "write_block": "rows: usize, columns: usize, block: f64 matrix, text: made u8 list, written: made usize list",
     "argmax_masked": "entries: f64 list, mask: u8 list, place: made usize list",
     "calculate_singular_values_cutoff": "values: f64 list, epsilon: f64, place: made usize list",
     "aca_partial_pivoting": "rows: usize, columns: usize, samples: f64 matrix, epsilon: f64, restart: bool, u: made f64 matrix, "
     "v: made f64 matrix, row_list: made u16 list, column_list: made u16 list, row: made f64 list, column: made f64 list, "
     "counts: made usize list, numbers: made f64 list",
+    "block_size": "text: u8 list, sizes: made usize list",
+    "read_block": "text: u8 list, block: made f64 matrix, sizes: made usize list",
+    "write_block": "rows: usize, columns: usize, block: f64 matrix, text: made u8 list, written: made usize list",
 }
 
 # A call answers the number of a refusal; these answer a float, and a number with a line.

@@ -14,7 +14,8 @@ use Rattle.common.proofs.Cases.{equal-and}
 use Rattle.common.proofs.Limits.{shape-out, shape-past, shape-passed, passed, call-refused, call-done, left-done}
 use Rattle.common.proofs.Matrices.{column-length, column-cong, column-entry}
 use Rattle.vectors.specs.Vectors.{references}
-use Rattle.points.specs.Points.{targetPoint, sourcePoint, pointsOf, sizesNumber, targetNumber, sourceNumber, targetCall, sourceCall}
+use Rattle.point_columns.specs.Blocks.{pointsOf}
+use Rattle.points.specs.Points.{targetPoint, sourcePoint, sizesNumber, targetNumber, sourceNumber, targetCall, sourceCall}
 use Rattle.roots.specs.Values.{root}
 use Rattle.distances.specs.declared.Lengths.{Lengths}
 use Rattle.distances.specs.Distances.{sample, Memory, lengths, lengthsFit, sampleNumber, sampled, sampleCall}

@@ -11,7 +11,8 @@ use Rattle.common.specs.Matrices.{columnMajor}
 use Rattle.common.specs.Refusals.{noDimension, noOrder, noCount, noCase, wrongLength, noCell, unless, isDimension, isOrder, isCell}
 use Rattle.common.specs.Refusals.{mostEntries, left}
 use Rattle.vectors.specs.Vectors.{references}
-use Rattle.points.specs.Points.{targetPoint, sourcePoint, pointsOf}
+use Rattle.point_columns.specs.Blocks.{pointsOf}
+use Rattle.points.specs.Points.{targetPoint, sourcePoint}
 use Rattle.roots.specs.Values.{root}
 use Rattle.distances.specs.declared.Lengths.{Lengths}
 

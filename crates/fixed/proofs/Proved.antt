@@ -15,7 +15,8 @@ use Rattle.turn.specs.Tables.{tableNumber, tableCall}
 use Rattle.vectors.specs.LookUps.{lookUpNumber, knownOf, lookUp}
 use Rattle.polynomial_columns.specs.Recurrence.{T, T′}
 use Rattle.chebyshev.specs.Polynomials.{polynomialsNumber, polynomialsCall}
-use Rattle.transfer.specs.Tensor.{passed, directed, operatorHalf, along, ends, transferNumber, transferred, transferCall}
+use Rattle.passes.specs.Passes.{passed, directed}
+use Rattle.transfer.specs.Tensor.{operatorHalf, along, ends, transferNumber, transferred, transferCall}
 use Rattle.aca_pivots.specs.Largest.{best, argmax, pivot, counts}
 use Rattle.choices.specs.Argmax.{isMask, argmaxNumber, argmaxCall}
 use Rattle.aca_lines.specs.Lines.{residual, multiplied, norm, cross}

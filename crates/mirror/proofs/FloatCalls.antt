@@ -31,7 +31,8 @@ use Rattle.node_rows.specs.Rows.{node}
 use Rattle.nodes.specs.Sets.{mirrored, setCall}
 use Rattle.nodes.proofs.Calls.{nodes-taken, nodes-done}
 use Rattle.nodes.proofs.SetCalls.{set-mirrored}
-use Rattle.points.specs.Points.{nodeOn, targetPoint, sourcePoint, pointsOf, sizesNumber, sourceNumber, targetCall, sourceCall}
+use Rattle.point_columns.specs.Blocks.{nodeOn, pointsOf}
+use Rattle.points.specs.Points.{targetPoint, sourcePoint, sizesNumber, sourceNumber, targetCall, sourceCall}
 use Rattle.points.proofs.Calls.{sizes-none, target-sizes, target-done}
 use Rattle.mirror.specs.FloatTurns.{difference}
 use Rattle.mirror.specs.FloatTurnCalls.{Lent, FloatCallsAreRight}

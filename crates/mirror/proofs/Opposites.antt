@@ -12,7 +12,7 @@ use Rattle.floats.proofs.Opposites.{neg-opposite, opposite-of-neg, mul-opposite
 use Rattle.node_rows.specs.Rows.{node}
 use Rattle.nodes.specs.Sets.{mirrored}
 use Rattle.nodes.proofs.Mirror.{mirrored-upper, mirrored-lower, mirrored-middle}
-use Rattle.points.specs.Points.{onTarget, onSource}
+use Rattle.point_columns.specs.Blocks.{onTarget, onSource}
 use Rattle.mirror.specs.FloatTurns.{difference}
 
 -- NODES

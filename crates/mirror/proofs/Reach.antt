@@ -19,7 +19,7 @@ use Rattle.floats.specs.Signs.{magnitude}
 use Rattle.floats.specs.Sizes.{SameSize}
 use Rattle.floats.proofs.Bits.{equal-bits}
 use Rattle.floats.proofs.Bounds.{most-more, most-number, most-finite, mul-most, add-most, sub-most, ofInt-most}
-use Rattle.points.specs.Points.{onTarget, onSource}
+use Rattle.point_columns.specs.Blocks.{onTarget, onSource}
 use Rattle.node_rows.specs.Rows.{entry}
 use Rattle.nodes.specs.Sets.{mirrored}
 use Rattle.mirror.specs.FloatTurns.{difference}

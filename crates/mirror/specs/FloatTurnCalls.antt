@@ -16,7 +16,8 @@ use Rattle.turn.specs.Turns.{matching}
 use Rattle.turn.specs.Tables.{tableCall}
 use Rattle.turn.specs.TurnCalls.{at}
 use Rattle.nodes.specs.Sets.{setCall}
-use Rattle.points.specs.Points.{onSource, nodeOn, targetCall, sourceCall}
+use Rattle.point_columns.specs.Blocks.{onSource, nodeOn}
+use Rattle.points.specs.Points.{targetCall, sourceCall}
 
 -- lists as the calls take them
 pub record Lent (D p : ℕ) (nodes targets sources : List Float) (table : List ℕ) : Type 0 where

@@ -5,7 +5,7 @@ use lib.Ieee.{Float, ofInt, binary64}
 use Rattle.common.specs.Digits.{digit}
 use Rattle.common.specs.Floats.{minus}
 use Rattle.floats.specs.Sizes.{SameSize}
-use Rattle.points.specs.Points.{onTarget, onSource}
+use Rattle.point_columns.specs.Blocks.{onTarget, onSource}
 use Rattle.turn.specs.Turns.{matching}
 
 -- an axis's difference in floats: the coordinate of a source node, its block so many blocks away, less that of a target node

@@ -12,7 +12,7 @@ use Rattle.common.specs.Refusals.{Shape, shapeNumber}
 use Rattle.common.proofs.Cases.{equal-and}
 use Rattle.common.proofs.Limits.{shape-in, shape-out, call-refused₂, call-done₂, passed, shape-passed}
 use Rattle.transfer.specs.Tensor.{along, ends, transferNumber, transferred, transferCall}
-use Rattle.transfer.proofs.Passes.{copied}
+use Rattle.transfer.proofs.Axes.{copied}
 
 pub record Accepted (D p child i o f s : ℕ) : Type 0 where
   pub shape : Shape D p

@@ -1,3 +1,3 @@
 pub mod Calls
-pub mod Passes
+pub mod Axes
 pub mod Determined

@@ -1,21 +1,13 @@
 -- The tensor transfer: a pass along each axis, the last first, from one buffer to the other.
-use mathlib.Core.Bool.{Bool, cond, _&&_}
+use mathlib.Core.Bool.{Bool, _&&_}
 use mathlib.Core.List.{List}
 use Prim.Native.Nat.{ℕ, zero, suc, _+_, _-_, _*_, _/_, _%_, _^_}
 use lib.Dec.{ltb, eqb}
 use lib.Ieee.{Float}
 use lib.ListN.{length}
-use Rattle.common.specs.Floats.{inner}
-use Rattle.common.specs.Matrices.{matrix, columnMajor}
+use Rattle.common.specs.Matrices.{matrix}
 use Rattle.common.specs.Refusals.{noDimension, noOrder, noCase, wrongLength, unless, isDimension, isOrder, left}
-
--- One pass reads the data as p rows and so many columns. Output place c + width * r is the sum over s of data (s, c) times operator (r, s).
-unfoldable pub passed : (p width : ℕ) → (values operator : ℕ → ℕ → Float) → List Float
-passed p width values operator = columnMajor width p (λ c r. inner p (λ s. values s c) (operator r))
-
--- operator (r, s) for M2M, (s, r) for L2L
-unfoldable pub directed : (transpose : Bool) → (operator : ℕ → ℕ → Float) → (r s : ℕ) → Float
-directed transpose operator r s = cond transpose (operator s r) (operator r s)
+use Rattle.passes.specs.Passes.{passed, directed}
 
 -- The operators' lower half is their first p columns, and the upper half the next p. Along an axis it is the lower one where bit
 -- `axis` of the child is 0, else the upper.

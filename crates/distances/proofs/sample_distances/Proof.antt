@@ -2,7 +2,8 @@
 -- nothing.
 use borrow.Author.Needs.{needs}
 use mathlib.Core.Path.{_≡_, sym, ap, _∙_}
-use Rattle.points.specs.Points.{sourcePoint, targetPoint, pointsOf}
+use Rattle.point_columns.specs.Blocks.{pointsOf}
+use Rattle.points.specs.Points.{sourcePoint, targetPoint}
 use Rattle.distances.specs.Distances.{lengths}
 use Rattle.distances.proofs.Calls.{Taken, number-taken, block-fits, sources-filled, targets-filled, sample-refused, sample-done}
 use Rattle.distances.proofs.sample_distances.Statement.{statement}

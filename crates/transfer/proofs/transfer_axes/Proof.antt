@@ -4,7 +4,7 @@ use Prim.Native.Nat.{_-_}
 use native.Mathlib.Omega.{arith}
 use borrow.Author.Needs.{needs}
 use Rattle.transfer.specs.Tensor.{along}
-use Rattle.transfer.proofs.Passes.{axes-one, axes-two, axes-three, pass-ready}
+use Rattle.transfer.proofs.Axes.{axes-one, axes-two, axes-three, pass-ready}
 use Rattle.transfer.proofs.transfer_axes.Statement.{statement}
 use Rattle.transfer.proofs.transfer_axes.Tie as tie
 

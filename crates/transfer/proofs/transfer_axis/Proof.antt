@@ -4,7 +4,7 @@ use Prim.Native.Nat.{_+_, _*_, _<_, _≤_}
 use native.Mathlib.Nat.{mod-lt}
 use native.Mathlib.Omega.{arith}
 use lib.ListN.{length}
-use Rattle.transfer.proofs.Passes.{block-fits, along-block}
+use Rattle.transfer.proofs.Axes.{block-fits, along-block}
 use borrow.Author.Needs.{needs}
 use Rattle.transfer.proofs.transfer_axis.Statement.{statement}
 use Rattle.transfer.proofs.transfer_axis.Tie as tie

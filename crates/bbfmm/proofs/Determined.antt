@@ -7,7 +7,7 @@ use lib.Ieee.{Float}
 use lib.IntN.{ℤ}
 use Rattle.common.proofs.Determined.{coincide}
 use Rattle.vectors.specs.declared.Vector.{Vector}
-use Rattle.turn.specs.Turned.{turned, returned}
+use Rattle.turn_tables.specs.Turned.{turned, returned}
 use Rattle.turn.specs.Tables.{tableCall}
 use Rattle.nodes.specs.Nodes.{nodesCall}
 use Rattle.nodes.specs.Sets.{setCall}

@@ -1,7 +1,7 @@
 // Turning a block: looking up a vector, following a node, reference vectors, and the two tables.
 ghost use mathlib.Core.Path.{_≡_};
 ghost use Rattle.turn.specs.Tables.{tableCall};
-ghost use Rattle.turn.specs.Turned.{turned, returned};
+ghost use Rattle.turn_tables.specs.Turned.{turned, returned};
 ghost use Rattle.turn_told.specs.Told.{lookUpTold, followTold, referenceTold};
 use turn::combined_permutation;
 use turn::inverse_permutation;

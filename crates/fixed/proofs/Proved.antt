@@ -10,7 +10,7 @@ use Rattle.common.specs.Tests.{each, those, count}
 use Rattle.common.specs.Factorials.{factorial}
 use Rattle.vectors.specs.Order.{skip, unskip, axis, place, largest, axisOrder, sorted}
 use Rattle.vectors.specs.Vectors.{index, case, atMost, near, isReference, references, entry, farReference, referenceOf}
-use Rattle.turn.specs.Turned.{reversed, negative, axisOf, placeOf, turnedIndex, turned, returnedIndex, returned}
+use Rattle.turn_tables.specs.Turned.{reversed, negative, axisOf, placeOf, turnedIndex, turned, returnedIndex, returned}
 use Rattle.turn.specs.Tables.{tableNumber, tableCall}
 use Rattle.vectors.specs.LookUps.{lookUpNumber, knownOf, lookUp}
 use Rattle.polynomial_columns.specs.Recurrence.{T, T′}

@@ -9,7 +9,7 @@ use lib.Ieee.{Float, neg, ofBits, binary64}
 use Rattle.common.specs.Floats.{float, zero₆₄, one₆₄, two₆₄, half₆₄}
 use Rattle.vectors.specs.LookUps.{toldLookUp, lookUp}
 use Rattle.turn.specs.Tables.{tableCall}
-use Rattle.turn.specs.Turned.{turned, returned}
+use Rattle.turn_tables.specs.Turned.{turned, returned}
 use Rattle.vectors.specs.declared.LookUp.the-variants as look
 use Rattle.chebyshev.specs.Polynomials.{polynomialsCall}
 use Rattle.transfer.specs.Tensor.{transferCall}

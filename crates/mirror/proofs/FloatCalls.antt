@@ -20,10 +20,10 @@ use Rattle.vectors.specs.Order.{axisOrder}
 use Rattle.vectors.specs.Vectors.{sizes, case, references, reference}
 use Rattle.vectors.specs.LookUps.{entries, lookUp, lookUpNumber, knownOf}
 use Rattle.vectors.proofs.Orders.{axis-below, axisOrder-below}
-use Rattle.turn.specs.Turned.{turned}
+use Rattle.turn_tables.specs.Turned.{turned}
 use Rattle.turn.specs.Turns.{matching}
 use Rattle.turn.specs.TurnCalls.{FarVector}
-use Rattle.turn.proofs.Nodes.{turned-below}
+use Rattle.turn_tables.proofs.Nodes.{turned-below}
 use Rattle.turn.proofs.References.{reference-below}
 use Rattle.turn.proofs.Right.{case-below}
 use Rattle.turn.proofs.RightCalls.{look-up-taken, filled}

@@ -12,7 +12,7 @@ use Rattle.floats.proofs.Opposites.{opposite-magnitude}
 use Rattle.vectors.specs.Order.{sorted, axisOrder}
 use Rattle.vectors.specs.Vectors.{sizes, case, entry, reference}
 use Rattle.vectors.proofs.Orders.{axis-below, axisOrder-below}
-use Rattle.turn.specs.Turned.{turned}
+use Rattle.turn_tables.specs.Turned.{turned}
 use Rattle.turn.specs.Turns.{Far, matching}
 use Rattle.turn.proofs.Right.{size-turned}
 use Rattle.turn.proofs.References.{reference-entry}

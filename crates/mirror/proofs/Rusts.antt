@@ -8,7 +8,7 @@ use Rattle.common.specs.Digits.{digit, fromDigits}
 use Rattle.common.specs.Factorials.{factorial}
 use Rattle.vectors.specs.Order.{skip, axis, place, largest, axisOrder}
 use Rattle.vectors.specs.Vectors.{case}
-use Rattle.turn.specs.Turned.{reversed, negative, placeOf, turnedIndex, turned}
+use Rattle.turn_tables.specs.Turned.{reversed, negative, placeOf, turnedIndex, turned}
 use Rattle.node_rows.specs.Rows.{entry, node}
 use Rattle.mirror.specs.FloatTurns.{difference, FloatTurns}
 

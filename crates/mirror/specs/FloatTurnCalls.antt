@@ -11,7 +11,7 @@ use Rattle.vectors.specs.declared.Known.{Known}
 use Rattle.vectors.specs.declared.Vector.{Vector}
 use Rattle.vectors.specs.declared.LookUp.the-variants as look
 use Rattle.vectors.specs.LookUps.{entries, toldLookUp, lookUp}
-use Rattle.turn.specs.Turned.{turned}
+use Rattle.turn_tables.specs.Turned.{turned}
 use Rattle.turn.specs.Turns.{matching}
 use Rattle.turn.specs.Tables.{tableCall}
 use Rattle.turn.specs.TurnCalls.{at}

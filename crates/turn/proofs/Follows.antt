@@ -1,24 +1,21 @@
 -- One node, followed by its indices: its image and its origin are the entries of both tables. Assumes nothing.
 use mathlib.Core.Path.{_≡_, refl, sym, ap, _∙_}
-use mathlib.Core.Bool.{Bool, true, false, cond}
+use mathlib.Core.Bool.{true}
 use Prim.Native.Nat.{ℕ, zero, suc, _+_, _-_, _*_, _/_, _%_, _^_, _<_, _≤_}
 use native.Mathlib.Nat.{pow-zero, pow-succ', one-le-pow, div-one, div-div-eq-div-mul, div-lt-iff-lt-mul, mod-eq-of-lt}
 use native.Mathlib.Omega.{arith}
-use lib.Dec.{ltb, eqb}
+use lib.Dec.{ltb}
 use lib.IntN.{ℤ}
-use borrow.Author.Tests.{eqb-true, ltb-true, lt-ltb, le-ltb, eq-eqb, ne-eqb}
+use borrow.Author.Tests.{ltb-true, lt-ltb, ne-eqb}
 use Rattle.common.specs.Digits.{fromDigits, digit}
-use Rattle.common.specs.Factorials.{factorial}
 use Rattle.common.specs.Refusals.{Shape, lower, isDimension, isOrder, shapeNumber}
-use Rattle.common.specs.Tests.{each}
-use Rattle.common.specs.Threes.{three, Small}
+use Rattle.common.specs.Threes.{three}
 use Rattle.common.specs.declared.Three.{Three}
 use Rattle.common.proofs.Answers.{answer-refused, refused-by, done-by}
 use Rattle.common.proofs.Cases.{by-bool, by-lt}
 use Rattle.common.proofs.Digits.{digit-below, fromDigits-cong}
 use Rattle.common.proofs.Limits.{shape-in, shape-out, shape-taken, passed, power-one, power-two}
-use Rattle.common.proofs.Tests.{each-at}
-use Rattle.vectors.specs.Order.{unskip, axis, place, axisOrder}
+use Rattle.vectors.specs.Order.{axis, place, axisOrder}
 use Rattle.vectors.specs.Vectors.{sizes, isNegative, case, atMost}
 use Rattle.vectors.specs.LookUps.{entries, lookUpNumber, turnOf, toldTurning, turningCall}
 use Rattle.vectors.specs.declared.Vector.{Vector}
@@ -26,11 +23,11 @@ use Rattle.vectors.specs.declared.Turn.{Turn}
 use Rattle.vectors.specs.declared.Turning.{Turning}
 use Rattle.vectors.specs.declared.Turning.the-variants as turning
 use Rattle.vectors.proofs.Orders.{axisOrder-below, axis-below, place-below}
-use Rattle.turn.specs.Turned.{reversed, turnedIndex, turned, returnedIndex, returned}
+use Rattle.turn_tables.specs.Turned.{reversed, turnedIndex, turned, returnedIndex, returned}
 use Rattle.turn.specs.Follow.{followNumber, movesOf, toldFollowed, followCall}
 use Rattle.turn.specs.declared.follow.Followed.the-variants as followed
-use Rattle.turn.specs.Working.{negativeOn, indicesOf, imageIndex, reversedAll, originIndex, placeOfOther, indexNumber, nodeNumber, Followable}
-use Rattle.turn.proofs.Nodes.{reversed-below}
+use Rattle.turn_nodes.specs.Working.{negativeOn, imageIndex, reversedAll, originIndex, Followable}
+use Rattle.turn.specs.Working.{indicesOf, indexNumber, nodeNumber}
 use Rattle.turn.proofs.Right.{case-axis, case-place, case-negative}
 
 same-tests : (a b c d : ℕ) → (a < b → c < d) → (c < d → a < b) → ltb a b ≡ ltb c d
@@ -101,42 +98,6 @@ pub node-below : (D p n : ℕ) → nodeNumber D p n ≡ 0 → n < p ^ D
 unfolding nodeNumber
 node-below D p n z = ltb-true n (p ^ D) (passed (ltb n (p ^ D)) 4 0 z .0)
 
--- THE PLACE of an axis, as the program finds it: one test over all orders
-
-placeBy : (D k a : ℕ) → ℕ
-placeBy D k a =
-    cond (ltb D 3) (cond (eqb a k) 0 1)
-    (cond (eqb a (k / 2)) 0 (cond (ltb a (k / 2)) (placeOfOther a (k % 2)) (placeOfOther (a - 1) (k % 2))))
-
-place-by : (D k a : ℕ) → D ≤ 3 → k < factorial D → a < D → placeBy D k a ≡ place D k a
-unfolding each factorial place unskip placeBy
-place-by D k a hD hk ha =
-    eqb-true _ _
-    (each-at D (λ b. eqb (placeBy D k b) (place D k b))
-    (each-at (factorial D) (λ j. each D (λ b. eqb (placeBy D j b) (place D j b)))
-    (each-at 4 (λ n. each (factorial n) (λ j. each n (λ b. eqb (placeBy n j b) (place n j b)))) refl D (omega arith)) k hk) a ha)
-
-module _ (D k a : ℕ) (hD : D ≤ 3) (hk : k < factorial D) (ha : a < D) where
-  pub place-same : D < 3 → a ≡ k → 0 ≡ place D k a
-  unfolding placeBy
-  place-same l e = rw (lt-ltb D 3 l, eq-eqb a k e) at (place-by D k a hD hk ha)
-
-  pub place-other : D < 3 → (a ≡ k → ⊥) → 1 ≡ place D k a
-  unfolding placeBy
-  place-other l d = rw (lt-ltb D 3 l, ne-eqb a k d) at (place-by D k a hD hk ha)
-
-  pub place-first : 3 ≤ D → a ≡ k / 2 → 0 ≡ place D k a
-  unfolding placeBy
-  place-first l e = rw (le-ltb D 3 l, eq-eqb a (k / 2) e) at (place-by D k a hD hk ha)
-
-  pub place-low : 3 ≤ D → (a ≡ k / 2 → ⊥) → a < k / 2 → placeOfOther a (k % 2) ≡ place D k a
-  unfolding placeBy
-  place-low l d h = rw (le-ltb D 3 l, ne-eqb a (k / 2) d, lt-ltb a (k / 2) h) at (place-by D k a hD hk ha)
-
-  pub place-high : 3 ≤ D → (a ≡ k / 2 → ⊥) → k / 2 ≤ a → placeOfOther (a - 1) (k % 2) ≡ place D k a
-  unfolding placeBy
-  place-high l d h = rw (le-ltb D 3 l, ne-eqb a (k / 2) d, le-ltb a (k / 2) h) at (place-by D k a hD hk ha)
-
 -- THE IMAGE AND THE ORIGIN, by how the vector turns its reference
 
 negative-on : (D : ℕ) (v : ℕ → ℤ) (a : ℕ) → a < 3 → negativeOn (turnOf D v) a ≡ isNegative (v a)
@@ -145,11 +106,6 @@ negative-on D v zero l = refl
 negative-on D v (suc zero) l = refl
 negative-on D v (suc (suc zero)) l = refl
 negative-on D v (suc (suc (suc a))) l = absurd (omega arith)
-
-pub negative-third : (t : Turn) (a : ℕ) → (a ≡ 0 → ⊥) → (a ≡ 1 → ⊥) → t .third ≡ negativeOn t a
-negative-third t zero d d' = absurd (d refl)
-negative-third t (suc zero) d d' = absurd (d' refl)
-negative-third t (suc (suc a)) d d' = refl
 
 -- reversed by the axis
 reversed-on : (p : ℕ) (t : Turn) (n : Three) (a : ℕ) → a < 3 → three (reversedAll p t n) a ≡ reversed p (negativeOn t a) (three n a)
@@ -198,46 +154,6 @@ module _ (D p : ℕ) (v : ℕ → ℤ) (n : ℕ) (ok : Shape D p) (h : n < p ^ D
       ≡ returned D p (case D v) n
   unfolding returned
   origin-right = fromDigits-cong p D _ _ origin-on
-
--- each index is below p, past the dimension too
-module _ (D p : ℕ) (t : Turn) (n : Three) (ok : Followable D p t n) where
-  image-below : (a : ℕ) → imageIndex D p t n a < p
-  unfolding imageIndex
-  image-below a =
-      by-bool (ltb a D) (λ e. rw e (reversed-below p _ _ (ok .below (place D (t .order) a)))) (λ e. rw e (ok .shape .order-least))
-
-  back-below : (a : ℕ) → three (reversedAll p t n) a < p
-  unfolding reversedAll
-  back-below zero = reversed-below p _ _ (ok .below 0)
-  back-below (suc zero) = reversed-below p _ _ (ok .below 1)
-  back-below (suc (suc zero)) = reversed-below p _ _ (ok .below 2)
-  back-below (suc (suc (suc a))) = ok .shape .order-least
-
-  origin-below : (m : ℕ) → originIndex D (t .order) (reversedAll p t n) m < p
-  unfolding originIndex
-  origin-below m = by-bool (ltb m D) (λ e. rw e (back-below (axis D (t .order) m))) (λ e. rw e (ok .shape .order-least))
-
-  small : (f : ℕ → ℕ) (a b c : ℕ) → ((k : ℕ) → f k < p) → a ≡ f 0 → b ≡ f 1 → c ≡ f 2 → (p ≤ 16) × Small D 16 (a, b, c)
-  small f a b c h e e' e'' =
-      let most = ok .shape .order-most in (
-        most,
-        record {
-          dimension-least = ok .shape .dimension-least;
-          dimension-most = ok .shape .dimension-most;
-          first = omega (arith, h 0, e, most);
-          second = omega (arith, h 1, e', most);
-          third = omega (arith, h 2, e'', most);
-        },
-      )
-
-  pub image-small : (a b c : ℕ) → a ≡ imageIndex D p t n 0 → b ≡ imageIndex D p t n 1 → c ≡ imageIndex D p t n 2 →
-      (p ≤ 16) × Small D 16 (a, b, c)
-  image-small a b c = small (imageIndex D p t n) a b c image-below
-
-  pub origin-small : (a b c : ℕ) → a ≡ originIndex D (t .order) (reversedAll p t n) 0 →
-      b ≡ originIndex D (t .order) (reversedAll p t n) 1 → c ≡ originIndex D (t .order) (reversedAll p t n) 2 →
-      (p ≤ 16) × Small D 16 (a, b, c)
-  origin-small a b c = small (originIndex D (t .order) (reversedAll p t n)) a b c origin-below
 
 -- THE NUMBER: the lower of the vector's and the node's
 

@@ -14,13 +14,13 @@ use Rattle.vectors.specs.Vectors.{sizes, case, atMost}
 use Rattle.vectors.specs.LookUps.{entries, lookUpNumber, knownOf, lookUp}
 use Rattle.vectors.specs.declared.Vector.{Vector}
 use Rattle.vectors.specs.declared.Known.{Known}
-use Rattle.turn.specs.Turned.{turned, returned}
+use Rattle.turn_tables.specs.Turned.{turned, returned}
 use Rattle.turn.specs.Tables.{tableNumber, tableCall}
 use Rattle.turn.specs.Follow.{followNumber, movesOf, toldFollowed, followCall}
 use Rattle.turn.specs.FollowCalls.{FollowsTables, NodesAreFollowed}
 use Rattle.turn.specs.declared.follow.Moves.{Moves}
 use Rattle.turn.specs.declared.follow.Followed.the-variants as followed
-use Rattle.turn.proofs.Nodes.{turned-below, returned-below, returned-turned, turned-returned}
+use Rattle.turn_tables.proofs.Nodes.{turned-below, returned-below, returned-turned, turned-returned}
 
 -- a table that was filled, at a place
 filled : (D p k : ℕ) (f : ℕ → ℕ) (lent l : List ℕ) → (0, l) ≡ tableCall D p k f lent → l ≡ tabulate (p ^ D) f

@@ -15,7 +15,7 @@ use Rattle.common.proofs.Limits.{call-done}
 use Rattle.common.proofs.Tests.{each-of}
 use Rattle.vectors.specs.declared.Vector.{Vector}
 use Rattle.vectors.specs.Vectors.{sizes, atMost, case, references, entry, reference}
-use Rattle.turn.specs.Turned.{turned, returned}
+use Rattle.turn_tables.specs.Turned.{turned, returned}
 use Rattle.turn.specs.Tables.{cases, tableNumber, tableCall}
 use Rattle.vectors.specs.LookUps.{entries, lookUp, lookUpNumber, knownOf, referenceCall, referenceNumber, referenceAt}
 use Rattle.turn.specs.TurnCalls.{FarVector, CallsAreRight}

@@ -7,7 +7,7 @@ use Rattle.common.specs.Refusals.{noDimension, noOrder, noEntry, noCase, notZer
 use Rattle.vectors.specs.Vectors.{sizes, case, atMost}
 use Rattle.vectors.specs.LookUps.{entries}
 use Rattle.vectors.specs.declared.Vector.{Vector}
-use Rattle.turn.specs.Turned.{turned, returned}
+use Rattle.turn_tables.specs.Turned.{turned, returned}
 use Rattle.turn.specs.declared.follow.Moves.{Moves}
 use Rattle.turn.specs.declared.follow.Followed.{Followed}
 use Rattle.turn.specs.declared.follow.Followed.the-variants as followed

@@ -7,7 +7,7 @@ use Rattle.vectors.specs.LookUps.{toldLookUp, lookUp}
 use Rattle.vectors.specs.declared.Vector.{Vector}
 use Rattle.vectors.specs.declared.Known.{Known}
 use Rattle.vectors.specs.declared.LookUp.the-variants as look
-use Rattle.turn.specs.Turned.{turned, returned}
+use Rattle.turn_tables.specs.Turned.{turned, returned}
 use Rattle.turn.specs.Tables.{tableCall}
 use Rattle.turn.specs.Follow.{toldFollowed, followCall}
 use Rattle.turn.specs.declared.follow.Moves.{Moves}

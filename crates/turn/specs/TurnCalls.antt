@@ -9,7 +9,7 @@ use Rattle.vectors.specs.declared.Vector.{Vector}
 use Rattle.vectors.specs.declared.LookUp.the-variants as look
 use Rattle.vectors.specs.declared.Reference.the-variants as refer
 use Rattle.vectors.specs.Vectors.{sizes}
-use Rattle.turn.specs.Turned.{turned, returned}
+use Rattle.turn_tables.specs.Turned.{turned, returned}
 use Rattle.turn.specs.Turns.{Far, TurnIsRight}
 use Rattle.turn.specs.Tables.{tableCall}
 use Rattle.vectors.specs.LookUps.{entries, toldLookUp, lookUp, toldReference, referenceCall}

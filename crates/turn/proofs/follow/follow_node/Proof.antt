@@ -4,7 +4,8 @@ use mathlib.Core.Path.{_≡_, sym, ap, subst, _∙_}
 use Rattle.common.specs.Refusals.{shapeNumber}
 use Rattle.common.specs.declared.Three.{Three}
 use Rattle.common.proofs.Limits.{shape-taken}
-use Rattle.turn.specs.Working.{nodeNumber, Followable}
+use Rattle.turn_nodes.specs.Working.{Followable}
+use Rattle.turn.specs.Working.{nodeNumber}
 use Rattle.turn.proofs.Follows.{index-number, shape-refused, vector-refused, node-refused, turn-followable, moves-found}
 use Rattle.turn.proofs.follow.follow_node.Statement.{statement}
 use Rattle.turn.proofs.follow.follow_node.Tie as tie

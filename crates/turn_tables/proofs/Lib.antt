@@ -1,0 +1,4 @@
+pub mod Nodes
+pub mod Walks
+pub mod Decode
+pub mod Determined

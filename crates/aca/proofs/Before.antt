@@ -9,7 +9,8 @@ use lib.Ieee.{Float, lt, le}
 use Rattle.common.specs.Floats.{times}
 use Rattle.common.proofs.Cases.{by-bool, by-eq}
 use Rattle.aca_lines.specs.Lines.{norm}
-use Rattle.aca_progress.specs.Crosses.{Block, most, Found, rowRead, columnRead, grown, weighed, stored, onward, without, tiny₆₄, usable, judged}
+use Rattle.aca_progress.specs.Crosses.{Block, most, Found, rowRead, columnRead, grown, weighed, stored, onward, without, tiny₆₄, usable}
+use Rattle.aca_progress.specs.Crosses.{judged}
 use Rattle.aca_progress.specs.Crosses.{accepted, tried, step}
 use Rattle.aca_steps.specs.Memories.{Memory, blockOf}
 use Rattle.aca_progress.specs.declared.Progress.{Progress}

@@ -222,4 +222,5 @@ pivot-facts m n a epsilon t restart =
     (λ z e. rw e (told [] 0 zero₆₄ none-known))
     (λ z e. rw e
     (told _ _ _
-    (run-known restart (blockOf m n a) (omega arith) (omega arith) (times epsilon epsilon) (listed restart m n) begin (start t) [] none-known)))
+    (run-known restart (blockOf m n a) (omega arith) (omega arith) (times epsilon epsilon) (listed restart m n) begin
+    (start t) [] none-known)))

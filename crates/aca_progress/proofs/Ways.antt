@@ -15,7 +15,8 @@ use Rattle.aca_pivots.specs.Largest.{pivot}
 use Rattle.aca_lines.specs.Lines.{residual, multiplied, norm}
 use Rattle.aca_pivots.specs.declared.Pivot.{Pivot}
 use Rattle.aca_pivots.proofs.Largest.{argmax-in}
-use Rattle.aca_progress.specs.Crosses.{Block, most, Found, unread, rowRead, columnRead, noted, grown, weighed, stored, tolerable, spent}
+use Rattle.aca_progress.specs.Crosses.{Block, most, Found, unread, rowRead, columnRead, noted, grown, weighed, stored, tolerable}
+use Rattle.aca_progress.specs.Crosses.{spent}
 use Rattle.aca_progress.specs.Crosses.{usedUp, allTried, moved, elsewhere, onward, without, usable, judged, accepted, tried, step}
 use Rattle.aca_progress.specs.declared.Progress.{Progress}
 use Rattle.aca_progress.specs.declared.Step.{Step}

@@ -231,7 +231,8 @@ module _ (samples : List Float) (tolerance : Float) (g : Reading) (s : Progress)
           rw (weighed-is, ← ready .sizes .terms)
           (sym
           (judged-cong m (isOn rows') (unread is) marked
-          (grown with-pivot (norm x v) (cross k (t .us) (t .vs) x v) (argmax x (isOn rows'))) next restart (length (t .«column-list»)) tolerance (norm x v)) ∙ sym (rw column-long at (term-is .answer-is)))
+          (grown with-pivot (norm x v) (cross k (t .us) (t .vs) x v) (argmax x (isOn rows'))) next restart (length
+          (t .«column-list»)) tolerance (norm x v)) ∙ sym (rw column-long at (term-is .answer-is)))
 
       accepted-is : accepted restart block tolerance with-pivot after-column ≡ outcome r (stored after-column)
       unfolding accepted

@@ -26,7 +26,8 @@ with-refusal own false h = rw (ne-eqb own 0 h) (λ z. omega arith)
 -- THE CALL
 
 module _ {A : Type 0} (values lent : List A) where
-  pub written-refused : (own r : ℕ) → r ≡ withLength own (eqb (length lent) (length values)) → (own ≡ 0 → ⊥) → (r, lent) ≡ written own values lent
+  pub written-refused : (own r : ℕ) → r ≡ withLength own (eqb (length lent) (length values)) → (own ≡ 0 → ⊥) →
+      (r, lent) ≡ written own values lent
   unfolding written
   written-refused own r e h = call-refused r _ values lent e (rw e (with-refusal own (eqb (length lent) (length values)) h))
 

@@ -67,7 +67,8 @@ module _ (D p P : ℕ) (t : List Float) (x : (i a : ℕ) → Float) (some : 1 �
     gradients-right side slopes e =
         column-cong P (gradientOf D p P slopes factors) (D * p ^ D) (gradient D p t x side)
         (λ i c b m. let nodes : 0 < p ^ D = some-rows D (p ^ D) c m in
-        others-cong (c / p ^ D) _ _ D _ _ (axis-entry D p P x some (S′ p side t) slopes e i (c % p ^ D) (c / p ^ D) b (div-lt-iff-lt-mul nodes .1 m))
+        others-cong (c / p ^ D) _ _ D _ _ (axis-entry D p P x some (S′ p side t) slopes e i (c % p ^ D) (c / p ^ D) b
+        (div-lt-iff-lt-mul nodes .1 m))
         (λ a h d. axis-entry D p P x some (S p t) factors made i (c % p ^ D) a b h))
 
   -- ALL OF THE MEMORY

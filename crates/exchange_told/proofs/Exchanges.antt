@@ -18,7 +18,8 @@ use Rattle.exchange_format.specs.Words.{Size}
 use Rattle.exchange_format.specs.Reading.{Outcome, refuse, give, then, opening, Block, count, verdict, fitting, reading}
 use Rattle.exchange_format.specs.Writing.{wholes, written, fittingText, writing}
 use Rattle.exchange_format.specs.Calls.{answered, leftIn, leftText, sizeFrom, sizeCall, readCall, writeCall}
-use Rattle.exchange_told.specs.Exchanged.{mostLine, withLine, ToldApart, ifFit, numberOf, valuesOf, sizeValues, sizeTold, readTold, writeTold}
+use Rattle.exchange_told.specs.Exchanged.{mostLine, withLine, ToldApart, ifFit, numberOf, valuesOf, sizeValues, sizeTold, readTold}
+use Rattle.exchange_told.specs.Exchanged.{writeTold}
 use Rattle.exchange_told.specs.Working.{valuesTold, countValues}
 
 -- NUMBER AND LINE come back from what is told

@@ -33,7 +33,8 @@ unfolding fromDigits digit sums columnMajor left each those count factorial skip
     returned tableNumber tableCall lookUpNumber knownOf lookUp T T′ polynomialsNumber polynomialsCall passed directed operatorHalf along
     ends transferNumber transferred transferCall size best argmax pivot counts isMask argmaxNumber argmaxCall residual multiplied unread
     rowRead columnRead norm cross lesser grown weighed onward without usable judged stored accepted tried step squares firstBelow
-    cutoff cutoffNumber cutoffCall followed run report laid fits acaNumber approximation acaCall trailingZeros add sub mul div neg lt le isNan ofBits ofFields ofInt odd units
+    cutoff cutoffNumber cutoffCall followed run report laid fits acaNumber approximation acaCall trailingZeros add sub mul div neg lt le
+    isNan ofBits ofFields ofInt odd units
     round sum digits span climb
 fixed =
     record {

@@ -31,7 +31,8 @@ use Rattle.fixed.proofs.Sharp.{rows-not-enough, columns-not-enough}
 pub requested : Requested
 unfolding size isCell each allFinite coordinateIn inCell allInCell pointsNumber floorRoot nearestRoot root added digit references entry
     isReference those sums best argmax pivot residual multiplied norm cross any lowest unread rowRead columnRead lesser grown
-    weighed stored elsewhere onward without usable judged accepted tried step followed run report laid fits acaNumber approximation acaCall left
+    weighed stored elsewhere onward without usable judged accepted tried step followed run report laid fits acaNumber approximation
+    acaCall left
     lengthsFit coefficientsNumber coefficientsCall lower airs.deficiency airs.ratio airs.airOf ratios.isFloor ratios.floorNumber
     ratios.lengthsFit ratios.lengthsNumber ratios.orLast ratios.ratiosNumber ratios.ratiosCall
     onto lines before from past all same small isFirst isPassed valueFrom numeral sizeOf entryOf entries sizeLine opening verdict reading

@@ -2,7 +2,8 @@
 use mathlib.Core.Path.{_≡_, sym, ap, _∙_}
 use mathlib.Core.List.{List}
 use Prim.Native.Nat.{ℕ, suc, _+_, _-_, _*_, _/_, _%_, _^_, _<_, _≤_}
-use native.Mathlib.Nat.{mul-le-mul, mul-one, div-one, mul-assoc, mul-add-div-right, mul-add-mod-self-right, mod-eq-of-lt, div-lt-iff-lt-mul, pow-succ'}
+use native.Mathlib.Nat.{mul-le-mul, mul-one, div-one, mul-assoc, mul-add-div-right, mul-add-mod-self-right, mod-eq-of-lt, div-lt-iff-lt-mul}
+use native.Mathlib.Nat.{pow-succ'}
 use native.Mathlib.Omega.{arith}
 use lib.Arith.{digits-div}
 use lib.Ieee.{Float, nan}

@@ -1,9 +1,11 @@
--- The recurrences over polynomials with whole coefficients give the derivatives, and over whole numbers the values of these polynomials. Assumes nothing.
+-- The recurrences over polynomials with whole coefficients give the derivatives, and over whole numbers the values of these polynomials.
+-- Assumes nothing.
 use mathlib.Core.Path.{_≡_, refl, sym, ap, ap₂, _∙_, fun-ext}
 use mathlib.Core.List.{[], _∷_}
 use Prim.Native.Nat.{ℕ, zero, suc, _<_}
 use native.Mathlib.Omega.{arith}
-use lib.IntN.{ℤ, pos, negsuc, negℤ, _+ℤ_, _-ℤ_, _*ℤ_, pow, one, +ℤ-assoc, +ℤ-comm, +ℤ-idl, +ℤ-idr, *ℤ-zero, *ℤ-one, zero-*ℤ, *ℤ-comm, sucℤ-*ℤ, negℤ-+ℤ}
+use lib.IntN.{ℤ, pos, negsuc, negℤ, _+ℤ_, _-ℤ_, _*ℤ_, pow, one, +ℤ-assoc, +ℤ-comm, +ℤ-idl, +ℤ-idr, *ℤ-zero, *ℤ-one, zero-*ℤ, *ℤ-comm}
+use lib.IntN.{sucℤ-*ℤ, negℤ-+ℤ}
 use Rattle.common.specs.Lists.{tabulate}
 use Rattle.recurrences.specs.Recurrence.{Numbers, chebyshev, derived, chebyshev′, chebyshev″}
 use Rattle.recurrences.specs.Whole.{Polynomial, constant, scaled, raised, derivative, value, polynomials, wholes, Right}
@@ -106,7 +108,8 @@ module _ (c : Polynomial) (x : ℤ) where
 
 value-by2x : (c : Polynomial) (x : ℤ) (n : ℕ) → value (suc n) (P .by2x c) x ≡ wholes x .by2x (value n c x)
 value-by2x c x n =
-    value-scaled (raised c) x (pos 2) (suc n) ∙ ap (λ (t : ℤ). pos 2 *ℤ t) (value-raised c x n) ∙ sym (times-product (pos 2) x (value n c x))
+    value-scaled (raised c) x (pos 2) (suc n) ∙ ap (λ (t : ℤ). pos 2 *ℤ t) (value-raised c x n) ∙ sym (times-product (pos 2) x
+    (value n c x))
 
 value-nought : (x : ℤ) (n : ℕ) → value n (P .nought) x ≡ pos 0
 unfolding value
@@ -132,7 +135,8 @@ module _ (x : ℤ) where
   values (suc (suc j)) zero h = absurd (omega arith)
   values (suc (suc j)) (suc n) h =
       value-difference (P .by2x (chebyshev P (suc j))) (chebyshev P j) x (suc n)
-      ∙ ap₂ _-ℤ_ (value-by2x (chebyshev P (suc j)) x n ∙ ap (wholes x .by2x) (values (suc j) n (omega arith))) (values j (suc n) (omega arith))
+      ∙ ap₂ _-ℤ_ (value-by2x (chebyshev P (suc j)) x n ∙ ap (wholes x .by2x) (values (suc j) n (omega arith))) (values j (suc n)
+      (omega arith))
 
   -- a derivative of a sequence S whose values are R
   module _ (a : ℤ) (second : Polynomial) (b : ℤ) (S : ℕ → Polynomial) (R : ℕ → ℤ) (start : (n : ℕ) → value (suc n) second x ≡ b)

@@ -2,7 +2,8 @@
 use mathlib.Core.Path.{_≡_}
 use mathlib.Core.List.{List}
 use Prim.Native.Nat.{ℕ, zero, suc, _+_, _-_, _*_, _/_, _%_, _^_, _≤_, _<_, zero-le}
-use native.Mathlib.Nat.{not-suc-le-zero, mod-lt, mod-eq-of-lt, one-le-pow, pow-suc, pow-le-pow-right, le-trans, div-lt-iff-lt-mul, le-div-iff-mul-le}
+use native.Mathlib.Nat.{not-suc-le-zero, mod-lt, mod-eq-of-lt, one-le-pow, pow-suc, pow-le-pow-right, le-trans, div-lt-iff-lt-mul}
+use native.Mathlib.Nat.{le-div-iff-mul-le}
 use native.Mathlib.Omega.{arith}
 use lib.Dec.{ltb, lit<}
 use lib.ListN.{length, length-append}

@@ -145,7 +145,8 @@ module _ (D p : ℕ) (v : ℕ → ℤ) (n : ℕ) (ok : Shape D p) (h : n < p ^ D
       let at = axis-below D k m (axisOrder-below D (sizes v)) l in
       let most = ok .dimension-most in
       let t = turnOf D v in
-      let here : three (reversedAll p t (indicesOf D p n)) (axis D k m) ≡ reversed p (isNegative (v (axis D k m))) (digit p D (axis D k m) n) =
+      let here : three (reversedAll p t (indicesOf D p n)) (axis D k m) ≡ reversed p (isNegative (v (axis D k m))) (digit p D
+      (axis D k m) n) =
       reversed-on p t (indicesOf D p n) (axis D k m) (omega arith)
       ∙ rw (negative-on D v (axis D k m) (omega arith), indices-at D p n ok h (axis D k m) at) in
       rw (lt-ltb m D l, case-axis D v m, case-negative D v (axis D k m) at) here

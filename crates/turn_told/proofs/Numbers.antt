@@ -17,7 +17,8 @@ use Rattle.turn.specs.declared.follow.Moves.{Moves}
 use Rattle.turn.specs.declared.follow.Followed.{Followed}
 use Rattle.turn.specs.declared.follow.Followed.the-variants as followed
 use Rattle.turn.specs.Follow.{followNumber, movesOf, toldFollowed, followCall}
-use Rattle.vectors.specs.LookUps.{entries, lookUpNumber, knownOf, toldLookUp, lookUp, referenceNumber, referenceAt, toldReference, referenceCall}
+use Rattle.vectors.specs.LookUps.{entries, lookUpNumber, knownOf, toldLookUp, lookUp, referenceNumber, referenceAt, toldReference}
+use Rattle.vectors.specs.LookUps.{referenceCall}
 
 -- LOOKING UP
 

@@ -30,7 +30,8 @@ use Rattle.vectors.specs.Order.{axisOrder}
 use Rattle.vectors.specs.Vectors.{sizes, sign, isNegative, index, case, atMost, near, referenceOf}
 use Rattle.vectors.specs.LookUps.{entries, lookUpNumber, knownOf, toldLookUp, lookUp, turnOf, toldTurning, turningCall}
 use Rattle.common.specs.Threes.{three, Small}
-use Rattle.vectors.specs.Working.{shifted, unshifted, sizeOf, signOf, vectorOf, eachOf, digitsOf, digitsNumber, areEntries, areZeros, Past}
+use Rattle.vectors.specs.Working.{shifted, unshifted, sizeOf, signOf, vectorOf, eachOf, digitsOf, digitsNumber, areEntries, areZeros}
+use Rattle.vectors.specs.Working.{Past}
 
 -- ENTRIES AND THEIR BITS
 

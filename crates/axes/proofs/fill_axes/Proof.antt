@@ -67,7 +67,8 @@ loop-holds c =
       refl,
       refl,
       stepping-none 0 (a .cell .dimension) _
-          (cell (a .cell .rows) (axesAt (S (a .cell .order) (a .node-polynomials .now)) (a .cell .order) (a .cell .rows) (a .points .now))) _,
+          (cell (a .cell .rows) (axesAt (S (a .cell .order) (a .node-polynomials .now)) (a .cell .order) (a .cell .rows)
+          (a .points .now))) _,
       rw zero-mul (wanted-none (a .with-gradients) (cell (a .cell .rows) (axesAt
           (S′ (a .cell .order) (a .cell .side) (a .node-polynomials .now)) (a .cell .order) (a .cell .rows) (a .points .now))) _),
     )
@@ -191,7 +192,8 @@ loop-again c =
       search needs,
       search needs,
       stepping-more 0 (a .cell .dimension) _ (cell (a .cell .rows) (axesAt (S (a .cell .order) (a .node-polynomials .now))
-          (a .cell .order) (a .cell .rows) (a .points .now))) _ _ _ (l .axis) _ _ (l .inv .4) m (rw (s .pre .factors, mul-assoc) (omega arith))
+          (a .cell .order) (a .cell .rows) (a .points .now))) _ _ _ (l .axis) _ _ (l .inv .4) m (rw (s .pre .factors, mul-assoc)
+          (omega arith))
           (axis-block (S (a .cell .order) (a .node-polynomials .now)) (a .cell .order) (a .cell .rows) (a .points .now) (l .axis)
           (l .from) (l .inv .0)) (call .ensures .0),
       rw (next-column (l .axis) (a .cell .order * a .cell .rows)) (wanted-more (a .with-gradients)

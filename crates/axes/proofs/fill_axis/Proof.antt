@@ -86,7 +86,8 @@ returns c =
     (c .before .before .before .before .before .before .before .before .before .before .before .before .before .before .before .before
     .before .before .before .before .before .before .before .evaluate-chebyshev-polynomials .ensures) in (
       axis-finished T (factorOf (a .cell .order)) (a .cell .order) (a .cell .rows) (a .points .now) (a .node-polynomials .now) _ _ _ _ _
-          (t .0) (s .pre .factors) (c .before .before .before .before .before .before .before .before .before .before .before .before .before
+          (t .0) (s .pre .factors)
+          (c .before .before .before .before .before .before .before .before .before .before .before .before .before
           .before .before .before .sum-columns .ensures) (c .before .before .before .before .before .before .before .before .before .before
           .before .before .finish-factors .ensures),
       wanted-yes (a .with-gradients) _ _ _ w (axis-finished T′ (slopeOf (a .cell .order) (a .cell .side)) (a .cell .order) (a .cell .rows)

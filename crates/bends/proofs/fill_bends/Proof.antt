@@ -29,7 +29,8 @@ returns : tie.Need-returns
 returns c =
     let s = c .before .before .before .before .before .before .before .before .before .before .before in
     let a = s .args in
-    sums-finished (bendOf (a .order) (a .side)) (a .at) (a .order) (a .rows) (a .polynomials .now) (a .node-polynomials .now) (a .bends .now) (s .pre .4) _ _
+    sums-finished (bendOf (a .order) (a .side)) (a .at) (a .order) (a .rows) (a .polynomials .now) (a .node-polynomials .now)
+    (a .bends .now) (s .pre .4) _ _
     (c .before .before .before .before .before .before .sum-columns .ensures) (c .before .before .finish-bends .ensures)
 
 pub fill-bends-spec : {M : Type 1} → statement M

@@ -24,7 +24,8 @@ evaluate-axis-requires c κs =
 
 keep-three-requires : tie.Need-keep-three-requires
 keep-three-requires c κs =
-    let start = c .before .before .before .before .before .before .before .before .before .before .before .before .before .before .before .before .before .before .before .before .before in
+    let start = c .before .before .before .before .before .before .before .before .before .before .before .before .before .before .before
+    .before .before .before .before .before .before in
     let p = start .pre in
     let a = start .args in
     let k = c .before .before .before .before .before .before .before .before .before .before .evaluate-axis .kept in
@@ -33,10 +34,12 @@ keep-three-requires c κs =
 
 sum-axis-requires : tie.Need-sum-axis-requires
 sum-axis-requires c κs =
-    let start = c .before .before .before .before .before .before .before .before .before .before .before .before .before .before .before .before .before .before .before .before .before .before .before .before .before .before .before .before in
+    let start = c .before .before .before .before .before .before .before .before .before .before .before .before .before .before .before
+    .before .before .before .before .before .before .before .before .before .before .before .before .before in
     let p = start .pre in
     let a = start .args in
-    let k = c .before .before .before .before .before .before .before .before .before .before .before .before .before .before .before .before .before .evaluate-axis .kept in
+    let k = c .before .before .before .before .before .before .before .before .before .before .before .before .before .before .before
+    .before .before .evaluate-axis .kept in
     let r = c .before .before .before .before .before .before .keep-three .kept in
     let thrice = mul-assoc 3 (a .cell .order) (a .cell .rows) in (
       p .order-most,

@@ -29,7 +29,8 @@ returns : tie.Need-returns
 returns c =
     let s = c .before .before .before .before .before .before .before .before .before .before .before in
     let a = s .args in
-    sums-finished (factorOf (a .order)) (a .at) (a .order) (a .rows) (a .polynomials .now) (a .node-polynomials .now) (a .factors .now) (s .pre .4) _ _
+    sums-finished (factorOf (a .order)) (a .at) (a .order) (a .rows) (a .polynomials .now) (a .node-polynomials .now) (a .factors .now)
+    (s .pre .4) _ _
     (c .before .before .before .before .before .before .sum-columns .ensures) (c .before .before .finish-factors .ensures)
 
 pub fill-factors-spec : {M : Type 1} → statement M

@@ -29,7 +29,8 @@ returns : tie.Need-returns
 returns c =
     let s = c .before .before .before .before .before .before .before .before .before .before .before in
     let a = s .args in
-    sums-finished (slopeOf (a .order) (a .side)) (a .at) (a .order) (a .rows) (a .polynomials .now) (a .node-polynomials .now) (a .slopes .now) (s .pre .4) _ _
+    sums-finished (slopeOf (a .order) (a .side)) (a .at) (a .order) (a .rows) (a .polynomials .now) (a .node-polynomials .now)
+    (a .slopes .now) (s .pre .4) _ _
     (c .before .before .before .before .before .before .sum-columns .ensures) (c .before .before .finish-slopes .ensures)
 
 pub fill-slopes-spec : {M : Type 1} → statement M

@@ -5,7 +5,8 @@ use native.Mathlib.Nat.{mul-le-mul}
 use native.Mathlib.Omega.{arith}
 use borrow.Author.Needs.{needs}
 use Rattle.common.proofs.Limits.{shape-taken}
-use Rattle.transfer.proofs.Calls.{transfer-shape, transfer-child, transfer-input, transfer-operators, transfer-first, transfer-second, transfer-none}
+use Rattle.transfer.proofs.Calls.{transfer-shape, transfer-child, transfer-input, transfer-operators, transfer-first}
+use Rattle.transfer.proofs.Calls.{transfer-second, transfer-none}
 use Rattle.transfer.proofs.transfer_number.Statement.{statement}
 use Rattle.transfer.proofs.transfer_number.Tie as tie
 

@@ -47,7 +47,8 @@ three-columns-requires c κs =
     (p .0, l .inv .1, rw (l .inv .2, p .1) (room t), rw (l .inv .3, p .2) (room t), rw (l .inv .4, p .3) (room t))
 
 add-at : tie.Need-add-at Inv-loop μ-loop
-add-at c = let t = c .before .before .before .before .before .before .before .before .before .before in omega (arith, room t, start t .pre .1, start t .good)
+add-at c = let t = c .before .before .before .before .before .before .before .before .before .before in omega
+    (arith, room t, start t .pre .1, start t .good)
 
 add-j : tie.Need-add-j Inv-loop μ-loop
 add-j c = search needs

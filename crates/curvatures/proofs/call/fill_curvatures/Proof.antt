@@ -61,7 +61,8 @@ same-length-5 c = search needs
 
 returns : tie.Need-returns
 returns c =
-    let filled = c .before .before .before .before .before .before .before .before .before .before .before .before .before .before .before in
+    let filled = c .before .before .before .before .before .before .before .before .before .before .before .before .before .before .before
+    in
     let s = filled .before .before .before .before .before .before .before .before .before .before .before .before in
     let a = s .args in
     let h = s .pre .0 in

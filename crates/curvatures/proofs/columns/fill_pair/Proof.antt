@@ -42,7 +42,8 @@ returns-2 c =
     let a = s .args in
     c .before .before .fill-products .ensures
     ∙ pair-two (a .cell .dimension) (a .cell .order) (a .cell .rows) (a .factors .now) (a .slopes .now) (a .bends .now) (s .pre .0)
-    (a .pair) _ (c .before .before .before .before .third-axis .ensures) (lt-of-le-ne (s .pre .1) (c .before .before .before .before .before .if1 .left)) (s .pre .2)
+    (a .pair) _ (c .before .before .before .before .third-axis .ensures) (lt-of-le-ne (s .pre .1)
+    (c .before .before .before .before .before .if1 .left)) (s .pre .2)
     (a .cell .order ^ a .cell .dimension)
 
 pub fill-pair-spec : {M : Type 1} → statement M

@@ -72,14 +72,16 @@ returns-5 c =
     let four = c .before .before in
     let three = four .before .before in
     let two = three .before .before .before in
-    number-finite _ _ _ _ _ _ (shape (two .before)) (two .if2 .left) (fit three) (cell four) (sym (c .before .all-finite .ensures) ∙ of-not _ true (c .if5 .taken))
+    number-finite _ _ _ _ _ _ (shape (two .before)) (two .if2 .left) (fit three) (cell four) (sym
+    (c .before .all-finite .ensures) ∙ of-not _ true (c .if5 .taken))
 
 returns-6 : tie.Need-returns-6
 returns-6 c =
     let four = c .before .before in
     let three = four .before .before in
     let two = three .before .before .before in
-    number-none _ _ _ _ _ _ (shape (two .before)) (two .if2 .left) (fit three) (cell four) (sym (c .before .all-finite .ensures) ∙ of-not _ false (c .if5 .left))
+    number-none _ _ _ _ _ _ (shape (two .before)) (two .if2 .left) (fit three) (cell four) (sym
+    (c .before .all-finite .ensures) ∙ of-not _ false (c .if5 .left))
 
 pub curvature-number-spec : {M : Type 1} → statement M
 curvature-number-spec =

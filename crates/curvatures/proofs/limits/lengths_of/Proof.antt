@@ -57,7 +57,11 @@ mul-t9 : tie.Need-mul-t9
 mul-t9 c = omega (arith, nodes c)
 
 mul-t10 : tie.Need-mul-t10
-mul-t10 c = let a = start c .args in omega (arith, small (c .pair-count .result * c .before .power .result) (a .rows) 24576 4096 (nodes c) (few c))
+mul-t10 c = let a = start c .args in omega (
+  arith,
+  small (c .pair-count .result * c .before .power .result) (a .rows) 24576 4096
+      (nodes c) (few c),
+)
 
 mul-t11 : tie.Need-mul-t11
 mul-t11 c = omega (arith, order-most c)

@@ -1,4 +1,5 @@
--- `point_columns::blocks::fill_points` meets its contract. The loop keeps `Stepping`: the columns before `axis` are filled; and the values keep
+-- `point_columns::blocks::fill_points` meets its contract. The loop keeps `Stepping`: the columns before `axis` are filled; and the values
+-- keep
 -- their length. Assumes nothing.
 use borrow.Author.Needs.{needs}
 use mathlib.Core.Path.{_≡_, refl, ap, _∙_}

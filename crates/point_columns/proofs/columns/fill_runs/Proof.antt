@@ -1,4 +1,5 @@
--- `point_columns::columns::fill_runs` meets its contract. The loop keeps `Stepping`: the runs of the first i values are filled. Assumes nothing.
+-- `point_columns::columns::fill_runs` meets its contract. The loop keeps `Stepping`: the runs of the first i values are filled. Assumes
+-- nothing.
 use borrow.Author.Needs.{needs}
 use Prim.Native.Nat.{_+_, _-_, _≤_}
 use native.Mathlib.Omega.{arith}

@@ -8,6 +8,16 @@
     for (i = 2; i <= NF && $i != "#"; i++) uses[$1, $i] = 1
 }
 
+# What a crate uses, what that uses, and so on.
+function reach(    i, j, k) {
+    for (k = 1; k <= crates; k++) {
+        for (i = 1; i <= crates; i++) {
+            if (!((name[i], name[k]) in uses)) continue
+            for (j = 1; j <= crates; j++) if ((name[k], name[j]) in uses) uses[name[i], name[j]] = 1
+        }
+    }
+}
+
 function is_top(crate,    i, n) {
     for (i = 1; i <= crates; i++) n += (crate, name[i]) in uses
     return n > crates * 2 / 5
@@ -117,6 +127,7 @@ function box(crate, left, top, width, fill) {
 function fill_of(crate) { return inner[crate] ? "#f4f4f4" : "#dbe6f4" }
 
 END {
+    reach()
     for (i = 1; i <= crates; i++) bar[name[i]] = is_top(name[i]) ? "top" : (is_bottom(name[i]) ? "bottom" : "")
     for (i = 1; i <= crates; i++) if (is_drawn_so(name[i]) && height_of(name[i]) > levels) levels = height[name[i]]
     wide = widest()

@@ -8,8 +8,8 @@ use lib.Ieee.{Float, lt}
 use lib.Ieee.Scale.{finite}
 use Rattle.common.proofs.Cases.{by-bool}
 use Rattle.airs.specs.Airs.{deficiency, ratio, airOf, numberOf, ratioOr}
-use Rattle.airs.specs.declared.air.Air.{Air}
-use Rattle.airs.specs.declared.air.Air.the-variants.{Ratio, Unusable, Fresh}
+use Rattle.airs.specs.declared.Air.{Air}
+use Rattle.airs.specs.declared.Air.the-variants.{Ratio, Unusable, Fresh}
 
 module _ (floor c n o : Float) where
   pub no-deficiency : finite (deficiency n o) ≡ false → Unusable ≡ airOf floor c n o

@@ -1,15 +1,13 @@
--- The contract of this crate's function determines what it leaves. Assumes nothing.
+-- The contracts of this crate determine what is said of the air at a point. Assumes nothing.
 use mathlib.Core.Path.{_≡_}
-use mathlib.Core.List.{List}
 use Prim.Native.Nat.{ℕ}
 use lib.Ieee.{Float}
 use Rattle.common.proofs.Determined.{coincide}
-use Rattle.airs.specs.Airs.{airAt}
-use Rattle.airs.specs.Working.{toldOf}
+use Rattle.airs.specs.Airs.{airOf, numberOf}
+use Rattle.airs.specs.declared.Air.{Air}
 
-module _ (N P : ℕ) (floor : Float) (v c n o ratios : List Float) where
-  abbrev told : List ℕ × List Float
-  told = toldOf P (airAt N P floor v c n o) ratios
+air-of-determined : (floor c n o : Float) (r r' : Air) → r ≡ airOf floor c n o → r' ≡ airOf floor c n o → r ≡ r'
+air-of-determined floor c n o r r' = coincide r r' (airOf floor c n o)
 
-  fill-answers-determined : (m m' : List ℕ × List Float) → m ≡ told → m' ≡ told → m ≡ m'
-  fill-answers-determined m m' = coincide m m' told
+number-of-determined : (air : Air) (r r' : ℕ) → r ≡ numberOf air → r' ≡ numberOf air → r ≡ r'
+number-of-determined air r r' = coincide r r' (numberOf air)

@@ -1,3 +1,2 @@
 pub mod Airs
-pub mod Points
 pub mod Determined

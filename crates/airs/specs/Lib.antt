@@ -1,2 +1,1 @@
 pub mod Airs
-pub mod Working

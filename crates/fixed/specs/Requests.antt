@@ -12,7 +12,7 @@ use Rattle.roots.specs.Values.{root}
 use Rattle.distances.specs.Distances.{sample}
 use Rattle.airs.specs.Airs.{airOf}
 use Rattle.ratios.specs.Ratios.{ratiosCall}
-use Rattle.airs.specs.declared.air.Air.the-variants.{Ratio, Unusable, Fresh}
+use Rattle.airs.specs.declared.Air.the-variants.{Ratio, Unusable, Fresh}
 use Rattle.exchange_format.specs.Lines.{newline}
 use Rattle.exchange_format.specs.Words.{banner, kind, Size}
 use Rattle.exchange_format.specs.Calls.{sizeCall, readCall, writeCall}

@@ -18,11 +18,11 @@ use Rattle.coefficients.specs.Before.{Memory as Below, lengthsFit as coefficien
 use Rattle.coefficients.specs.Pair.{scaled, found}
 use Rattle.coefficients.specs.declared.wanted.Wanted.the-variants.{Values}
 use Rattle.coefficients.proofs.Pairs.{before-taken, lowest-of-two, lowest-asked-first, in-turn}
-use Rattle.airs.specs.Airs.{airAt, answersOf, ratiosOf}
+use Rattle.fields.specs.Fields.{airAt, answersOf, ratiosOf}
 use Rattle.ratios.specs.Ratios.{isFloor, floorNumber, lengthsFit, lengthsNumber, orLast}
 use Rattle.ratios.specs.Ratios.{Memory, below, ratiosNumber, told, ratiosCall}
-use Rattle.airs.specs.Working.{Evaluated, toldOf}
-use Rattle.airs.specs.declared.air.Air.{Air}
+use Rattle.fields.specs.Working.{Evaluated, toldOf}
+use Rattle.airs.specs.declared.Air.{Air}
 
 -- THE FLOOR'S NUMBER, and that of the lengths
 

@@ -10,7 +10,8 @@ use lib.ListN.{getD}
 use Rattle.common.specs.Floats.{zero₆₄, inner}
 use Rattle.coordinates.specs.Coordinates.{coordinate}
 use Rattle.coefficients.specs.Coefficients.{value}
-use Rattle.airs.specs.Airs.{deficiency, ratio, field}
+use Rattle.airs.specs.Airs.{deficiency, ratio}
+use Rattle.fields.specs.Fields.{field}
 use Rattle.ratios.specs.Ratios.{Memory, ratiosCall}
 
 -- a call with these arguments, the memory that it was lent, and what it leaves there

@@ -1,4 +1,5 @@
--- A ratio map: what the call refuses, and what it leaves. What is said of the air at a point is in airs/specs/Airs.antt.
+-- A ratio map: what the call refuses, and what it leaves. What is said of the air at a point is in airs/specs/Airs.antt, and how the
+-- gases come there in fields/specs/Fields.antt.
 use mathlib.Core.Bool.{Bool, false, cond, _&&_}
 use mathlib.Core.List.{List, []}
 use Prim.Native.Nat.{ℕ, _^_}
@@ -8,7 +9,7 @@ use lib.Ieee.Scale.{finite}
 use lib.ListN.{length}
 use Rattle.common.specs.Floats.{zero₆₄}
 use Rattle.common.specs.Refusals.{wrongLength, noFloor, lower, unless, left}
-use Rattle.airs.specs.Airs.{airAt, answersOf, ratiosOf}
+use Rattle.fields.specs.Fields.{airAt, answersOf, ratiosOf}
 use Rattle.coefficients.specs.Before.{Memory as Below, coefficientsCall}
 
 -- the memory that is lent to be written: points, values, factors, answers, ratios

@@ -7,11 +7,11 @@ ghost use mathlib.Core.List.{[]};
 ghost use Rattle.coefficients.specs.Before.{coefficientsCall};
 ghost use Rattle.ratios.specs.Ratios.{ratiosCall};
 use crate::limits::ratios_number;
-use airs::fill_answers;
 use coefficients::Cell;
 use coefficients::Wanted;
 use coefficients::get_approximation_coefficients;
 use coefficients::scale_points;
+use fields::fill_answers;
 
 // The points scaled, and the value coefficients there. That both calls accept is known beforehand.
 fn fill_values(

@@ -1,12 +1,12 @@
--- `airs::air::air_of` meets its contract: each return by the tests that led there. Assumes nothing.
+-- `airs::air_of` meets its contract: each return by the tests that led there. Assumes nothing.
 use borrow.Author.Needs.{needs}
 use mathlib.Core.Path.{sym, _∙_}
 use mathlib.Core.Bool.{true, false}
 use Rattle.common.proofs.Cases.{of-not}
 use Rattle.airs.specs.Airs.{deficiency, ratio}
 use Rattle.airs.proofs.Airs.{no-deficiency, below-floor, no-ratio, has-ratio}
-use Rattle.airs.proofs.air.air_of.Statement.{statement}
-use Rattle.airs.proofs.air.air_of.Tie as tie
+use Rattle.airs.proofs.air_of.Statement.{statement}
+use Rattle.airs.proofs.air_of.Tie as tie
 
 is-finite-requires : tie.Need-is-finite-requires
 is-finite-requires c κs = search needs

@@ -4,12 +4,13 @@ ghost use Prim.Native.Nat.{_+_, _<_, _≤_};
 ghost use lib.Ieee.{nan};
 ghost use lib.ListN.{length, getD, set};
 ghost use Rattle.common.specs.Lists.{stretch};
-ghost use Rattle.airs.specs.Airs.{field, airAt, numberOf, ratioOr};
-ghost use Rattle.airs.specs.Working.{Evaluated, Runs, Tells, twoMore, airHere, airFrom, toldFrom, toldOf};
-use crate::air::Air;
-use crate::air::Gases;
-use crate::air::air_of;
-use crate::air::number_of;
+ghost use Rattle.airs.specs.Airs.{numberOf, ratioOr};
+ghost use Rattle.fields.specs.Fields.{field, airAt};
+ghost use Rattle.fields.specs.Working.{Evaluated, Runs, Tells, twoMore, airHere, airFrom, toldFrom, toldOf};
+use airs::Air;
+use airs::Gases;
+use airs::air_of;
+use airs::number_of;
 
 // As many points as are worked on at a time: enough for the compiler to take several a turn, and few for the stack.
 const RUN: usize = 32;

@@ -1,13 +1,13 @@
--- `airs::fields::tell_air` meets its contract. The loop keeps: the air has been told at the first points of the run. Assumes nothing.
+-- `fields::tell_air` meets its contract. The loop keeps: the air has been told at the first points of the run. Assumes nothing.
 use borrow.Author.Needs.{needs}
 use mathlib.Core.Path.{refl}
 use Prim.Native.Nat.{_+_, _-_, _<_, _≤_}
 use native.Mathlib.Omega.{arith}
 use lib.ListN.{length}
-use Rattle.airs.specs.Working.{airHere}
-use Rattle.airs.proofs.Points.{Telling, telling-none, telling-more, telling-done}
-use Rattle.airs.proofs.fields.tell_air.Statement.{statement}
-use Rattle.airs.proofs.fields.tell_air.Tie as tie
+use Rattle.fields.specs.Working.{airHere}
+use Rattle.fields.proofs.Points.{Telling, telling-none, telling-more, telling-done}
+use Rattle.fields.proofs.tell_air.Statement.{statement}
+use Rattle.fields.proofs.tell_air.Tie as tie
 
 abbrev Inv-loop : tie.InvT-loop
 Inv-loop floor from count carbon-monoxide nitrogen oxygen answers₀ ratios₀ i₀ answers ratios i =

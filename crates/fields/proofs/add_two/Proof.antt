@@ -1,4 +1,4 @@
--- `airs::fields::add_two` meets its contract. The loop keeps `Filling`: i points have both terms. Assumes nothing.
+-- `fields::add_two` meets its contract. The loop keeps `Filling`: i points have both terms. Assumes nothing.
 use borrow.Author.Needs.{needs}
 use mathlib.Core.Path.{refl, sym, ap}
 use Prim.Native.Nat.{ℕ, _-_}
@@ -7,9 +7,9 @@ use native.Mathlib.Omega.{arith}
 use lib.Ieee.{nan}
 use lib.ListN.{getD}
 use Rattle.common.proofs.Fill.{Filling, filling-none, changing-more, filling-done}
-use Rattle.airs.specs.Working.{withTwo, twoMore}
-use Rattle.airs.proofs.fields.add_two.Statement.{statement}
-use Rattle.airs.proofs.fields.add_two.Tie as tie
+use Rattle.fields.specs.Working.{withTwo, twoMore}
+use Rattle.fields.proofs.add_two.Statement.{statement}
+use Rattle.fields.proofs.add_two.Tie as tie
 
 abbrev Inv-loop : tie.InvT-loop
 Inv-loop count values at next first second gas₀ i₀ gas i = Filling 0 count (twoMore values at next first second gas₀) gas₀ gas i

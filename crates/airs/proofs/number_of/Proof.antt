@@ -1,8 +1,8 @@
--- `airs::air::number_of` meets its contract, arm by arm. Assumes nothing.
+-- `airs::number_of` meets its contract, arm by arm. Assumes nothing.
 use borrow.Author.Needs.{needs}
 use Rattle.airs.specs.Airs.{numberOf}
-use Rattle.airs.proofs.air.number_of.Statement.{statement}
-use Rattle.airs.proofs.air.number_of.Tie as tie
+use Rattle.airs.proofs.number_of.Statement.{statement}
+use Rattle.airs.proofs.number_of.Tie as tie
 
 enum-told : tie.Need-enum-told
 enum-told c = search needs

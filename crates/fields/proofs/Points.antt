@@ -15,10 +15,11 @@ use Rattle.common.specs.Matrices.{matrix}
 use Rattle.common.proofs.Fill.{Filling, filling-none, filling-more, changing-more, filling-done, stretch-none, stretch-length}
 use Rattle.common.proofs.Fill.{stretch-inside, stretch-cong, stretch-again, fill-read, fill-after, fill-all, fill-on}
 use Rattle.common.proofs.Sums.{adding-none, adding-next, adding-all}
-use Rattle.airs.specs.Airs.{airOf, numberOf, ratioOr, field, airAt, answersOf, ratiosOf}
-use Rattle.airs.specs.Working.{Runs, twoMore, airHere, airFrom, toldFrom, toldOf}
-use Rattle.airs.specs.declared.air.Air.{Air}
-use Rattle.airs.specs.declared.air.Air.the-variants.{Ratio, Unusable, Fresh}
+use Rattle.airs.specs.Airs.{airOf, numberOf, ratioOr}
+use Rattle.fields.specs.Fields.{field, airAt, answersOf, ratiosOf}
+use Rattle.fields.specs.Working.{Runs, twoMore, airHere, airFrom, toldFrom, toldOf}
+use Rattle.airs.specs.declared.Air.{Air}
+use Rattle.airs.specs.declared.Air.the-variants.{Ratio, Unusable, Fresh}
 
 -- A GAS: the first nodes have been added at each point of a run, over zeros
 

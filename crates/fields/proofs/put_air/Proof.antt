@@ -1,8 +1,8 @@
--- `airs::fields::put_air` meets its contract, arm by arm. Assumes nothing.
+-- `fields::put_air` meets its contract, arm by arm. Assumes nothing.
 use borrow.Author.Needs.{needs}
-use Rattle.airs.proofs.Points.{put-ratio, put-unusable, put-fresh}
-use Rattle.airs.proofs.fields.put_air.Statement.{statement}
-use Rattle.airs.proofs.fields.put_air.Tie as tie
+use Rattle.fields.proofs.Points.{put-ratio, put-unusable, put-fresh}
+use Rattle.fields.proofs.put_air.Statement.{statement}
+use Rattle.fields.proofs.put_air.Tie as tie
 
 number-of-requires : tie.Need-number-of-requires
 number-of-requires c κs = search needs

@@ -1,4 +1,4 @@
--- `airs::fields::gas_at` meets its contract. The loop keeps: at each point of the run the sum is that of the first nodes. Assumes
+-- `fields::gas_at` meets its contract. The loop keeps: at each point of the run the sum is that of the first nodes. Assumes
 -- nothing.
 use borrow.Author.Needs.{needs}
 use mathlib.Core.Path.{_≡_, _∙_}
@@ -6,9 +6,9 @@ use Prim.Native.Nat.{_+_, _-_, _<_, _≤_}
 use native.Mathlib.Nat.{mul-le-mul}
 use native.Mathlib.Omega.{arith}
 use lib.ListN.{length}
-use Rattle.airs.proofs.Points.{Summing, summing-none, next-place, inside, summing-more, summing-two, summing-done}
-use Rattle.airs.proofs.fields.gas_at.Statement.{statement}
-use Rattle.airs.proofs.fields.gas_at.Tie as tie
+use Rattle.fields.proofs.Points.{Summing, summing-none, next-place, inside, summing-more, summing-two, summing-done}
+use Rattle.fields.proofs.gas_at.Statement.{statement}
+use Rattle.fields.proofs.gas_at.Tie as tie
 
 abbrev Inv-loop : tie.InvT-loop
 Inv-loop nodes rows from count values expansion gas₀ node₀ at₀ gas node at = Summing nodes rows from count values expansion gas₀ gas node at

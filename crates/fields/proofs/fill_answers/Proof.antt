@@ -1,13 +1,13 @@
--- `airs::fields::fill_answers` meets its contract. The loop keeps: the air has been told at the first points. Assumes nothing.
+-- `fields::fill_answers` meets its contract. The loop keeps: the air has been told at the first points. Assumes nothing.
 use borrow.Author.Needs.{needs}
 use mathlib.Core.Path.{_≡_, sym, _∙_}
 use Prim.Native.Nat.{_+_, _-_, _<_, _≤_}
 use native.Mathlib.Omega.{arith}
 use lib.ListN.{length}
-use Rattle.airs.specs.Airs.{airAt}
-use Rattle.airs.proofs.Points.{Told, told-none, told-more, told-done, run-fits}
-use Rattle.airs.proofs.fields.fill_answers.Statement.{statement}
-use Rattle.airs.proofs.fields.fill_answers.Tie as tie
+use Rattle.fields.specs.Fields.{airAt}
+use Rattle.fields.proofs.Points.{Told, told-none, told-more, told-done, run-fits}
+use Rattle.fields.proofs.fill_answers.Statement.{statement}
+use Rattle.fields.proofs.fill_answers.Tie as tie
 
 abbrev Inv-loop : tie.InvT-loop
 Inv-loop nodes rows floor values carbon-monoxide nitrogen oxygen answers₀ ratios₀ point₀ answers ratios point =

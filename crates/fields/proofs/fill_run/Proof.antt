@@ -1,9 +1,9 @@
--- `airs::fields::fill_run` meets its contract: the air is told from the gases that were found at the run's points. Assumes nothing.
+-- `fields::fill_run` meets its contract: the air is told from the gases that were found at the run's points. Assumes nothing.
 use borrow.Author.Needs.{needs}
 use mathlib.Core.Path.{_∙_}
-use Rattle.airs.proofs.Points.{told-same}
-use Rattle.airs.proofs.fields.fill_run.Statement.{statement}
-use Rattle.airs.proofs.fields.fill_run.Tie as tie
+use Rattle.fields.proofs.Points.{told-same}
+use Rattle.fields.proofs.fill_run.Statement.{statement}
+use Rattle.fields.proofs.fill_run.Tie as tie
 
 slice-aggregate-gas-at : tie.Need-slice-aggregate-gas-at
 slice-aggregate-gas-at c = search needs

@@ -3,7 +3,7 @@
 #include <stddef.h>
 #include <stdint.h>
 
-enum { BLOCK = 32768, ROOM = 65544, RECORD = 8 };
+enum { BLOCK = 65536, ROOM = 131080, RECORD = 8 };
 enum { TO_WRITE = 1, MAKE = 64, ONLY_NEW = 128, MODE = 438 };
 
 int open(const char *path, int flags, ...);

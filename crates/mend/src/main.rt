@@ -10,10 +10,10 @@ use mending::Totals;
 use records::Answered;
 
 // A block has whole records, so none stands in two.
-const BLOCK: usize = 32768;
+const BLOCK: usize = 65536;
 
 // Room for the text of a block: sixteen bytes a record and eight for the tail.
-const ROOM: usize = 65544;
+const ROOM: usize = 131080;
 
 // How many blocks go by between two counts on a terminal.
 const PAUSE: u64 = 16;

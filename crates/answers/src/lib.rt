@@ -1,4 +1,6 @@
 // What calls for C share whose answer is more than a number: the test of the slices that are lent for it.
+#![tactic(auto)]
+
 ghost use Rattle.std.specs.Prelude.{◌≡◌};
 ghost use Rattle.answers.specs.Answers.{with_length};
 

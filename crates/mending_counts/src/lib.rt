@@ -1,4 +1,6 @@
 // How many bytes of a text are a letter.
+#![tactic(auto)]
+
 ghost use Rattle.std.specs.Prelude.{◌≡◌, ◌≤◌, length};
 ghost use Rattle.mending_counts.specs.Occurrences.{occurs};
 

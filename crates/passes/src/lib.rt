@@ -1,4 +1,6 @@
 // One pass of the tensor transfer: data of p rows times an operator, a few rows of the operator at a time.
+#![tactic(auto)]
+
 ghost use Rattle.std.specs.Prelude.{◌≡◌, ℕ, ◌+◌, ◌*◌, ◌-◌, ◌<◌, ◌≤◌, length};
 ghost use Rattle.common.specs.Floats.{zero₆₄, spaced};
 ghost use Rattle.common.specs.Lists.{tabulate, stores};

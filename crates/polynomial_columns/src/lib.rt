@@ -1,4 +1,6 @@
 // One column of the Chebyshev polynomials T at a list of points, of T with T', or of T, T' and T'': from the two columns before it.
+#![tactic(auto)]
+
 ghost use Rattle.std.specs.Prelude.{◌≡◌, ◌+◌, ◌*◌, ◌≤◌, length};
 ghost use Rattle.common.specs.Lists.{stretch};
 ghost use Rattle.polynomial_columns.specs.Working.{later_T, later_T', later_T'', column_T, column_T', column_T''};

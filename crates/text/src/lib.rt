@@ -1,5 +1,7 @@
 // Text that is put together in lent memory. Each function that puts something answers the place past it; what has no room is
 // left out, and the place is then the line's end.
+#![tactic(auto)]
+
 ghost use Rattle.std.specs.Prelude.{◌≡◌, [], ◌∷◌, ◌++◌, ◌-◌};
 ghost use Rattle.text.specs.Text.{decimal, spaced, counted, refused_word, unknown_word, Ended};
 ghost use Rattle.text.specs.Text.{put as Text·put};

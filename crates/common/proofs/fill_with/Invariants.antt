@@ -1,0 +1,13 @@
+-- `common::fill_with` meets its contract. The loop keeps `Filling`: i rows hold the value. Assumes nothing.
+use borrow.Author.Rules.{rules}
+use mathlib.Core.Path.{refl}
+use Prim.Native.Nat.{◌-◌}
+use lib.Ieee.{nan}
+use Rattle.common.proofs.Fill.{Filling, filling_none, filling_more, filling_done}
+use Rattle.common.proofs.fill_with.Given as goal
+
+abbrev pub invariant-loop-i : goal.invariant-loop-i
+invariant-loop-i l = Filling l.at l.rows (λ j. l.value) l.initial.column l.column l.i
+
+abbrev pub decreases-loop-i : goal.decreases-loop-i
+decreases-loop-i l = l.rows - l.i

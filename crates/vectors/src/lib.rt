@@ -34,7 +34,7 @@ pub enum LookUp {
 
 // How a vector turns its reference: which of its entries are negative, so that the axis is reversed, and the number of the order of
 // its axes by falling size.
-#[derive(Drop)]
+#[derive(Clone, Copy)]
 pub struct Turn {
     pub first: bool,
     pub second: bool,

@@ -18,7 +18,7 @@ use common::Three;
 pub struct Vector(pub i32, pub i32, pub i32);
 
 // What is known of a vector.
-#[derive(Drop)]
+#[derive(Clone, Copy)]
 pub struct Known {
     pub index: usize,
     pub case: usize,

@@ -1,6 +1,5 @@
 -- `mending_records::is_kept` meets its contract: each of the later bytes is compared. Assumes nothing.
 use Rattle.mending_lines.proofs.Stored.{kept_at}
-use borrow.Author.Rules.{rules}
 use Rattle.mending_records.proofs.is_kept.Goals as goal
 
 pub returns : goal.returns

@@ -1,7 +1,6 @@
 -- `mending_records::look` meets its contract: the record's first four bytes are looked up. Assumes nothing.
 use mathlib.Core.Path.{◌∙◌}
 use Rattle.mending_lines.proofs.Stored.{found_at}
-use borrow.Author.Rules.{rules}
 use Rattle.mending_records.proofs.look.Goals as goal
 
 pub returns : goal.returns

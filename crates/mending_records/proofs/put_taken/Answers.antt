@@ -9,7 +9,6 @@ use Rattle.text.proofs.Putting.{put_then}
 use Rattle.mending_lines.specs.Records.{mended_word, places}
 use Rattle.mending_lines.specs.Working.{changed_later}
 use Rattle.mending_lines.proofs.Lines.{kept_line_lem, mended_line}
-use borrow.Author.Rules.{rules}
 use Rattle.mending_records.proofs.put_taken.Goals as goal
 
 pub returns-then-is_kept : goal.returns-then-is_kept

@@ -7,7 +7,6 @@ use Rattle.text.specs.Text.{put}
 use Rattle.vectors.specs.LookUps.{told_look_up}
 use Rattle.mending_lines.specs.Records.{line}
 use Rattle.mending_lines.proofs.Lines.{line_refused, line_taken}
-use borrow.Author.Rules.{rules}
 use Rattle.mending_records.proofs.put_verdict.Goals as goal
 
 pub returns-in-Refused : goal.returns-in-Refused

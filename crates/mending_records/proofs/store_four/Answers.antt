@@ -2,7 +2,6 @@
 use native.Mathlib.Omega.{arith}
 use lib.ListN.{length-set}
 use Rattle.mending_lines.proofs.Stored.{put_four}
-use borrow.Author.Rules.{rules}
 use Rattle.mending_records.proofs.store_four.Goals as goal
 
 pub bounds-output-at-2 : goal.bounds-output-at-2

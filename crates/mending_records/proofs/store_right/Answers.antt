@@ -7,7 +7,6 @@ use lib.ListN.{get_or, drop}
 use Rattle.vectors.specs.LookUps.{told_look_up}
 use Rattle.mending_lines.proofs.Bytes.{found_bytes}
 use Rattle.mending_lines.proofs.Stored.{right_refused, right_taken, right_stored}
-use borrow.Author.Rules.{rules}
 use Rattle.mending_records.proofs.store_right.Goals as goal
 
 pub overflow_cast-known : goal.overflow_cast-known
@@ -28,7 +27,7 @@ returns-in-Refused c =
 
 pub returns-in-Found : goal.returns-in-Found
 returns-in-Found c =
-    let k = c.found-in-Found-1.given.0.0 in
+    let k = c.in-Found.known in
     let i = c.args.input.now in
     let at = c.args.at in
     let known = sym (ap told_look_up c.in-Found.is) ∙ c.requires.2 in

@@ -26,7 +26,7 @@ pub struct Known {
     pub near: bool,
 }
 
-#[derive(Drop)]
+#[derive(Clone, Copy)]
 pub enum LookUp {
     Refused(u8),
     Found(Known),

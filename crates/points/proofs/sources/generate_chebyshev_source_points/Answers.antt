@@ -1,6 +1,5 @@
 -- `points::sources::generate_chebyshev_source_points` meets its contract: refused by its shape, its reference or its sizes, or filled.
 -- Assumes nothing.
-use borrow.Author.Rules.{rules}
 use mathlib.Core.Path.{sym, ◌∙◌}
 use native.Mathlib.Omega.{arith}
 use Rattle.common.specs.Refusals.{Shape}
@@ -26,8 +25,8 @@ pub returns-in_default : goal.returns-in_default
 returns-in_default c =
     let a = c.args in
     source_refused a.dimension a.order a.side a.reference a.nodes.now a.points.now _
-    (source_case _ _ _ _ _ _ (shape (goal.at.returns-in_default c).Else-shape-ne0) _ c.reference_vector.ensures _
-    c.enum_told-1.given.1) (λ z. omega arith)
+    (source_case _ _ _ _ _ _ (shape (goal.at.returns-in_default c).Else-shape-ne0) _ c.reference_vector.ensures _ c.in_default.is)
+    (λ z. omega arith)
 
 pub sizes_number-refused-requires : goal.sizes_number-refused-requires
 sizes_number-refused-requires c = shape (goal.at.sizes_number-refused-requires c).Else-shape-ne0
@@ -37,7 +36,7 @@ returns-then-refused-ne0 c =
     let a = c.args in
     source_refused a.dimension a.order a.side a.reference a.nodes.now a.points.now _
     (c.sizes_number-refused.ensures ∙ source_sizes _ _ _ _ _ _ (shape (goal.at.returns-then-refused-ne0 c).Else-shape-ne0) _
-    c.reference_vector.ensures _ c.vector-1.given.1)
+    c.reference_vector.ensures _ c.in-Found.is)
     c.if-refused-ne0.true
 
 pub fill_points-requires : goal.fill_points-requires
@@ -51,5 +50,5 @@ returns c =
     let s = shape (goal.at.returns c).Else-shape-ne0 in
     let told = c.reference_vector.ensures in
     source_done a.dimension a.order a.side a.reference a.nodes.now a.points.now _
-    (c.sizes_number-refused.ensures ∙ source_sizes _ _ _ _ _ _ s _ told _ c.vector-1.given.1)
-    _ _ _ s told c.vector-1.given.1 c.if-refused-ne0.false c.fill_points.ensures
+    (c.sizes_number-refused.ensures ∙ source_sizes _ _ _ _ _ _ s _ told _ c.in-Found.is)
+    _ _ _ s told c.in-Found.is c.if-refused-ne0.false c.fill_points.ensures

@@ -1,5 +1,4 @@
 -- `points::targets::generate_chebyshev_target_points` meets its contract: refused by its shape or its sizes, or filled. Assumes nothing.
-use borrow.Author.Rules.{rules}
 use mathlib.Core.Path.{sym, ◌∙◌}
 use Rattle.common.specs.Refusals.{Shape}
 use Rattle.common.proofs.Limits.{shape_taken}

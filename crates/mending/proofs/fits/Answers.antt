@@ -6,20 +6,10 @@ use lib.ListN.{length}
 use Rattle.mending.specs.Mending.{text}
 use Rattle.mending.proofs.Lines.{text_most}
 use borrow.Author.Rules.{rules}
-use Rattle.mending.proofs.fits.Statement.{statement}
-use Rattle.mending.proofs.fits.Tie as tie
+use Rattle.mending.proofs.fits.Goals as goal
 
-returns : tie.Need-returns
-returns c =
-    let a = c.before.before.before.args in
+pub returns-then-input-room : goal.returns-then-input-room
+returns-then-input-room c =
+    let a = c.args in
     let most = text_most a.input.now in
     sym (le-leb (length (text a.input.now)) a.room (omega arith))
-
-measure-requires : tie.Need-measure-requires
-measure-requires c κs = search rules
-
-returns-2 : tie.Need-returns-2
-returns-2 c = search rules
-
-pub fits-spec : {M : Type 1} → statement M
-fits-spec = tie.close (tie.spec returns measure-requires returns-2)

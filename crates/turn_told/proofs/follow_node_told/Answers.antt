@@ -1,7 +1,6 @@
 -- `turn_told::follow_node_told` meets its contract: each arm by what its variant says, and by the answer's length. Assumes
 -- nothing.
-use borrow.Author.Rules.{rules}
-use borrow.Author.Tests.{eqb-true}
+use borrow.Author.Tests.{eq-eqb, ne_eqb}
 use mathlib.Core.Path.{◌≡◌, ◌∙◌}
 use native.Mathlib.Omega.{arith}
 use lib.ListN.{length, length-set}
@@ -22,7 +21,7 @@ answered c =
 
 -- a lent answer that fits has two places
 fitting : (c : Then-is_fit) → length c.args.answer.now ≡ 2
-fitting c = eqb-true _ 2 c.if-is_fit.true
+fitting c = c.if-is_fit.true
 
 pub bounds-answer-0 : goal.bounds-answer-0
 bounds-answer-0 c = omega (arith, fitting (goal.at.bounds-answer-0 c).Then-is_fit)
@@ -38,8 +37,8 @@ unfolding follow_told
 returns-then-is_fit c =
     let a = c.args in
     let found = follow_found a.dimension a.order (a.x, a.y, a.z) a.node _ (answered (goal.at.returns-then-is_fit c).After-follow_node-found)
-    c.found-in-Found-1.given.0.0 c.found-in-Found-1.given.1 in
-    written_done _ a.answer.now _ _ found.0 c.if-is_fit.true
+    c.in-Found.moves c.in-Found.is in
+    written_done _ a.answer.now _ _ found.0 (eq-eqb _ 2 c.if-is_fit.true)
     (stored_two a.answer.now _ _ (fitting (goal.at.returns-then-is_fit c).Then-is_fit) ∙ rw found.1)
 
 pub returns-in-Refused : goal.returns-in-Refused
@@ -47,7 +46,7 @@ unfolding follow_told
 returns-in-Refused c =
     let a = c.args in
     let refused = follow_refused a.dimension a.order (a.x, a.y, a.z) a.node _ (answered (goal.at.returns-in-Refused c).After-follow_node-found) _
-    c.found-1.given.1 in
+    c.in-Refused.is in
     written_refused _ a.answer.now _ _ (c.with_length.ensures ∙ rw refused.0) refused.1
 
 pub returns-else-is_fit : goal.returns-else-is_fit
@@ -55,5 +54,5 @@ unfolding follow_told
 returns-else-is_fit c =
     let a = c.args in
     let found = follow_found a.dimension a.order (a.x, a.y, a.z) a.node _ (answered (goal.at.returns-else-is_fit c).After-follow_node-found) _
-    c.found-in-Found-1.given.1 in
-    written_unfit _ a.answer.now _ found.0 c.if-is_fit.false
+    c.in-Found.is in
+    written_unfit _ a.answer.now _ found.0 (ne_eqb _ 2 c.if-is_fit.false)

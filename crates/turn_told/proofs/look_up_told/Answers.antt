@@ -1,6 +1,5 @@
 -- `turn_told::look_up_told` meets its contract: each arm by what its variant says, and by the answer's length. Assumes nothing.
-use borrow.Author.Rules.{rules}
-use borrow.Author.Tests.{eqb-true}
+use borrow.Author.Tests.{eq-eqb, ne_eqb}
 use mathlib.Core.Path.{◌≡◌, refl, ◌∙◌}
 use mathlib.Core.Bool.{Bool, true, false, cond}
 use native.Mathlib.Omega.{arith}
@@ -21,7 +20,7 @@ answered c =
 
 -- a lent answer that fits has four places
 fitting : (c : Then-is_fit) → length c.args.answer.now ≡ 4
-fitting c = eqb-true _ 4 c.if-is_fit.true
+fitting c = c.if-is_fit.true
 
 pub bounds-answer-0 : goal.bounds-answer-0
 bounds-answer-0 c = omega (arith, fitting (goal.at.bounds-answer-0 c).Then-is_fit)
@@ -47,10 +46,10 @@ pub returns-then-is_fit : goal.returns-then-is_fit
 unfolding look_up_told
 returns-then-is_fit c =
     let a = c.args in
-    let e = c.found-in-Found-1.given.0.0 in
+    let e = c.in-Found.known in
     let found = look_found a.dimension (a.x, a.y, a.z) _ (answered (goal.at.returns-then-is_fit c).After-look_up-found) e
-    c.found-in-Found-1.given.1 in
-    written_done _ a.answer.now _ _ found.0 c.if-is_fit.true
+    c.in-Found.is in
+    written_done _ a.answer.now _ _ found.0 (eq-eqb _ 4 c.if-is_fit.true)
     (stored_four a.answer.now _ _ _ _ (fitting (goal.at.returns-then-is_fit c).Then-is_fit) ∙ rw (as_number e.near, found.1))
 
 pub returns-in-Refused : goal.returns-in-Refused
@@ -58,7 +57,7 @@ unfolding look_up_told
 returns-in-Refused c =
     let a = c.args in
     let refused = look_refused a.dimension (a.x, a.y, a.z) _ (answered (goal.at.returns-in-Refused c).After-look_up-found) _
-    c.found-1.given.1 in
+    c.in-Refused.is in
     written_refused _ a.answer.now _ _ (c.with_length.ensures ∙ rw refused.0) refused.1
 
 pub returns-else-is_fit : goal.returns-else-is_fit
@@ -66,5 +65,5 @@ unfolding look_up_told
 returns-else-is_fit c =
     let a = c.args in
     let found = look_found a.dimension (a.x, a.y, a.z) _ (answered (goal.at.returns-else-is_fit c).After-look_up-found) _
-    c.found-in-Found-1.given.1 in
-    written_unfit _ a.answer.now _ found.0 c.if-is_fit.false
+    c.in-Found.is in
+    written_unfit _ a.answer.now _ found.0 (ne_eqb _ 4 c.if-is_fit.false)

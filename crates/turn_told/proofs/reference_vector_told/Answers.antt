@@ -1,7 +1,7 @@
 -- `turn_told::reference_vector_told` meets its contract: each arm by what its variant says, and by the answer's length. Assumes
 -- nothing.
-use borrow.Author.Rules.{rules, sfits_of}
-use borrow.Author.Tests.{eqb-true}
+use borrow.Author.Rules.{sfits_of}
+use borrow.Author.Tests.{eq-eqb, ne_eqb}
 use mathlib.Core.Path.{◌≡◌, ◌∙◌}
 use native.Mathlib.Omega.{arith}
 use lib.ListN.{length, length-set}
@@ -14,7 +14,7 @@ use Rattle.turn_told.proofs.reference_vector_told.Goals as goal
 
 -- a lent vector that fits has three places
 fitting : (c : After-struct_told-then-is_fit-2-1) → length c.args.vector.now ≡ 3
-fitting c = eqb-true _ 3 c.if-is_fit.true
+fitting c = c.if-is_fit.true
 
 pub bounds-vector-0 : goal.bounds-vector-0
 bounds-vector-0 c = omega (arith, fitting (goal.at.bounds-vector-0 c).After-struct_told-then-is_fit-2-1)
@@ -33,9 +33,9 @@ unfolding reference_told
 returns-then-is_fit c =
     let a = c.args in
     let g = c.struct_told-1.given in
-    let found = reference_found a.dimension a.number _ c.reference_vector-found.ensures c.found-in-Found-1.given.0.0
-    c.found-in-Found-1.given.1 in
-    written_done _ a.vector.now _ _ found.0 c.if-is_fit.true
+    let found = reference_found a.dimension a.number _ c.reference_vector-found.ensures c.in-Found.v
+    c.in-Found.is in
+    written_done _ a.vector.now _ _ found.0 (eq-eqb _ 3 c.if-is_fit.true)
     (stored_three a.vector.now _ _ _ (fitting (goal.at.returns-then-is_fit c).After-struct_told-then-is_fit-2-1) ∙ rw (
       to_z-of_z (sfits_of g.0.1),
       to_z-of_z (sfits_of g.1.0.1),
@@ -48,12 +48,12 @@ pub returns-in-Refused : goal.returns-in-Refused
 unfolding reference_told
 returns-in-Refused c =
     let a = c.args in
-    let refused = reference_refused a.dimension a.number _ c.reference_vector-found.ensures _ c.found-1.given.1 in
+    let refused = reference_refused a.dimension a.number _ c.reference_vector-found.ensures _ c.in-Refused.is in
     written_refused _ a.vector.now _ _ (c.with_length.ensures ∙ rw refused.0) refused.1
 
 pub returns-else-is_fit : goal.returns-else-is_fit
 unfolding reference_told
 returns-else-is_fit c =
     let a = c.args in
-    let found = reference_found a.dimension a.number _ c.reference_vector-found.ensures _ c.found-in-Found-1.given.1 in
-    written_unfit _ a.vector.now _ found.0 c.if-is_fit.false
+    let found = reference_found a.dimension a.number _ c.reference_vector-found.ensures _ c.in-Found.is in
+    written_unfit _ a.vector.now _ found.0 (ne_eqb _ 3 c.if-is_fit.false)

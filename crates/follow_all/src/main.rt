@@ -1,6 +1,8 @@
 // Follows every node under every vector, dimensions 1 to 3, orders 1 to 6 and 16, and holds each answer to the full tables. Writes how
 // many nodes were followed, and how many answers differ.
-use libc::STDOUT_FILENO;
+#![tactic(auto)]
+
+use std::io::{Error, Write};
 use turn::{Followed, LookUp, Vector};
 
 // The most nodes of a block.
@@ -186,13 +188,14 @@ fn follow_all() -> Tally {
     tally
 }
 
-fn main() {
+fn main(rt: HostRuntime) -> Result<(), Error> {
     let tally = follow_all();
     let mut line = [0u8; 64];
     let followed = text::put_number(&mut line, 0, tally.followed as u64);
     let different = text::put_next(&mut line, followed, tally.different as u64);
     let end = text::end_line(&mut line, different);
     if end <= 64 {
-        io::write_all(STDOUT_FILENO, &line[..end]);
+        rt.stdout().write_all(&line[..end])?;
     }
+    Ok(())
 }

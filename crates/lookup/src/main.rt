@@ -1,7 +1,11 @@
 // Looks up records: reads records of four bytes, a dimension and three signed bytes, from standard
 // input, and writes a line of text for each to standard output.
-use libc::{STDIN_FILENO, STDOUT_FILENO};
+#![tactic(auto)]
+
+ghost use Rattle.std.specs.Prelude.{◌≤◌, length};
+
 use records::Answered;
+use std::io::{Read, Write};
 
 // A block has whole records, so none stands in two.
 const BLOCK: usize = 1024;
@@ -9,16 +13,31 @@ const BLOCK: usize = 1024;
 // Room for the text of a block: a line has at most 68 bytes.
 const ROOM: usize = 17408;
 
+// Reads until the block is full, the input ends or a read fails, and returns how many bytes it put at the start of the block.
+fn fill<R: Read>(from: &mut R, block: &mut [u8]) -> usize
+    ensures { result ≤ length block.new }
+{
+    let mut n = 0;
+    while n < block.len() {
+        match from.read(&mut block[n..]) {
+            Err(_) => return n,
+            Ok(0) => return n,
+            Ok(more) => n += more,
+        }
+    }
+    n
+}
+
 // Answers one block, and whether to go on: a block that is not full is the last, and so is one whose answer cannot be written.
 // Keeping the loop out of it lets Rattle prove it with no loop.
-fn answer_block() -> bool {
+fn answer_block<R: Read, W: Write>(from: &mut R, to: &mut W) -> bool {
     let mut input = [0u8; BLOCK];
     let mut output = [0u8; ROOM];
-    let n = io::read_full(STDIN_FILENO, &mut input);
+    let n = fill(from, &mut input);
     let Answered::Written(written) = records::answer(&input[..n], &mut output) else {
         return false;
     };
-    let is_written = io::write_all(STDOUT_FILENO, &output[..written]);
+    let is_written = to.write_all(&output[..written]).is_ok();
     if n < BLOCK {
         return false;
     }
@@ -26,10 +45,13 @@ fn answer_block() -> bool {
 }
 
 // No contract can say what is read or written; tests/lookup runs it. A proved loop has to end, and nothing says that the
-// input does, so the loop counts its turns down from a number that no run uses up.
-fn main() {
-    let mut turns = u64::MAX;
-    while turns > 0 && answer_block() {
-        turns -= 1;
+// input does, so the loop counts its turns up to a number that no run reaches.
+fn main(rt: HostRuntime) {
+    let mut from = rt.stdin();
+    let mut to = rt.stdout();
+    for _ in 0..u64::MAX {
+        if !answer_block(&mut from, &mut to) {
+            return;
+        }
     }
 }

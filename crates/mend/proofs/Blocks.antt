@@ -2,7 +2,7 @@
 use Rattle.std.proofs.Common.{◌≡◌, ℕ, List, subst}
 use Rattle.io.specs.Counts.{IsPrefixLen}
 use Rattle.mend.specs.declared.Filled.{Filled}
-use Rattle.mend.specs.declared.Filled.TheVariants.{Failed, Bytes}
+use Rattle.mend.specs.declared.Filled.TheVariants.{Bytes}
 use Rattle.mend.specs.Filled.{Within}
 
 pub filled_counts : (f : Filled) (n : ℕ) (l : List ℕ) → f ≡ Bytes n → Within f l → IsPrefixLen n l

@@ -5,5 +5,5 @@ use Rattle.mend.specs.declared.Filled.{Filled}
 use Rattle.mend.specs.declared.Filled.TheVariants.{Failed, Bytes}
 
 abbrev pub Within : Filled → (block : List ℕ) → Type 0
-Within Failed l = Unit {0}
+Within (Failed _) l = Unit {0}
 Within (Bytes n) l = IsPrefixLen n l

@@ -1,5 +1,7 @@
 // What the coefficients need of each axis: S and S' at reference coordinates. They are the coefficients of a cell with one dimension,
 // column a*p + n for node n of axis a.
+#![tactic(auto)]
+
 ghost use Rattle.std.specs.Prelude.{◌≡◌, cond, ◌+◌, ◌*◌, ◌<◌, ◌≤◌, length, get_or};
 ghost use Rattle.std.specs.Float.{nan};
 ghost use Rattle.common.specs.Lists.{stretch};

@@ -1,0 +1,16 @@
+-- `coordinates::scale_axis` meets its contract. The loop keeps `Filling`: i points are scaled. Assumes nothing.
+use borrow.Author.Rules.{rules}
+use mathlib.Core.Path.{refl}
+use Prim.Native.Nat.{◌+◌, ◌-◌}
+use lib.Ieee.{nan}
+use lib.ListN.{get_or}
+use Rattle.common.proofs.Fill.{Filling, filling_none, changing_more, filling_done}
+use Rattle.coordinates.specs.Coordinates.{coordinate_in}
+use Rattle.coordinates.proofs.scale_axis.Given as goal
+
+abbrev pub invariant-loop-i : goal.invariant-loop-i
+invariant-loop-i l = Filling l.at l.rows
+    (λ j. coordinate_in l.side l.centre (get_or l.initial.points (l.at + j) nan)) l.initial.points l.points l.i
+
+abbrev pub decreases-loop-i : goal.decreases-loop-i
+decreases-loop-i l = l.rows - l.i

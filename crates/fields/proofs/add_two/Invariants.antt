@@ -1,0 +1,17 @@
+-- `fields::add_two` meets its contract. The loop keeps `Filling`: i points have both terms. Assumes nothing.
+use borrow.Author.Rules.{rules}
+use mathlib.Core.Path.{refl, sym, ap}
+use Prim.Native.Nat.{ℕ, ◌-◌}
+use native.Mathlib.Nat.{zero-add}
+use native.Mathlib.Omega.{arith}
+use lib.Ieee.{nan}
+use lib.ListN.{get_or}
+use Rattle.common.proofs.Fill.{Filling, filling_none, changing_more, filling_done}
+use Rattle.fields.specs.Working.{with_two, two_more}
+use Rattle.fields.proofs.add_two.Given as goal
+
+abbrev pub invariant-loop-i : goal.invariant-loop-i
+invariant-loop-i l = Filling 0 l.count (two_more l.values l.at l.next l.first l.second l.initial.gas) l.initial.gas l.gas l.i
+
+abbrev pub decreases-loop-i : goal.decreases-loop-i
+decreases-loop-i l = l.count - l.i

@@ -32,8 +32,7 @@ loop-point-smaller c = omega (arith, (run (goal.at.loop-point-smaller c).After-l
 
 pub loop-point-preserved : goal.loop-point-preserved
 loop-point-preserved c =
-    let kept = c.fill_run.auto.answers in
-    told_more _ _ _ _ c.requires.1 c.requires.2 _ _ _ c.loop-point.invariant _ (run (goal.at.loop-point-preserved c).After-least-count).1 _ _ kept.0 kept.1.0 c.fill_run.ensures
+    told_more _ _ _ _ c.requires.1 c.requires.2 _ _ _ c.loop-point.invariant _ (run (goal.at.loop-point-preserved c).After-least-count).1 _ _ c.fill_run.auto.answers c.fill_run.auto.ratios c.fill_run.ensures
 
 pub shape_of-answers : goal.shape_of-answers
 shape_of-answers c = c.loop-point.invariant.as_long ∙ sym c.requires.1

@@ -15,15 +15,15 @@ use Rattle.fields.proofs.gas_at.Goals as goal
 module _ (c : At-loop-node) where
   read : c.loop-node.node < c.args.nodes → c.loop-node.at + c.args.count ≤ length c.args.values.now
   read l = inside c.args.nodes c.args.rows c.args.from c.args.count c.args.values.now
-      c.args.expansion.now c.fill_with.last.1.1.1.0 c.loop-node.node c.loop-node.at c.loop-node.invariant.place l
+      c.args.expansion.now c.fill_with.new.column c.loop-node.node c.loop-node.at c.loop-node.invariant.place l
       c.requires.values c.requires.points
 
   read_next : c.loop-node.node + 1 < c.args.nodes →
       c.loop-node.at + c.args.rows + c.args.count ≤ length c.args.values.now
   read_next l = inside c.args.nodes c.args.rows c.args.from c.args.count c.args.values.now
-      c.args.expansion.now c.fill_with.last.1.1.1.0 (c.loop-node.node + 1) (c.loop-node.at + c.args.rows)
+      c.args.expansion.now c.fill_with.new.column (c.loop-node.node + 1) (c.loop-node.at + c.args.rows)
       (next_place c.args.nodes c.args.rows c.args.from c.args.count c.args.values.now
-      c.args.expansion.now c.fill_with.last.1.1.1.0 c.loop-node.node c.loop-node.at c.loop-node.invariant.place) l
+      c.args.expansion.now c.fill_with.new.column c.loop-node.node c.loop-node.at c.loop-node.invariant.place) l
       c.requires.values c.requires.points
 
   few : length c.args.values.now ≤ 16777216
@@ -31,8 +31,8 @@ module _ (c : At-loop-node) where
       rw c.requires.values (mul-le-mul {n₁ = c.args.nodes} {m₁ = c.args.rows} {n₂ = 4096} {m₂ = 4096}
       c.requires.nodes c.requires.few)
 
-  zeros : 0 + c.args.count ≤ length c.fill_with.last.1.1.1.0
-  zeros = omega (arith, c.fill_with.kept, c.requires.room)
+  zeros : 0 + c.args.count ≤ length c.fill_with.new.column
+  zeros = omega (arith, c.fill_with.auto.column, c.requires.room)
 
 pub fill_with-requires : goal.fill_with-requires
 fill_with-requires c = let s = c.requires in omega (arith, s.room)

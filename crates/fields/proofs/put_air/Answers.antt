@@ -6,14 +6,14 @@ use Rattle.fields.proofs.put_air.Goals as goal
 pub returns-in-Ratio : goal.returns-in-Ratio
 returns-in-Ratio c =
     let a = c.args in
-    put_ratio a.answers.now a.ratios.now a.point _ _ c.number_of.ensures _ c.air-1.given.1
+    put_ratio a.answers.now a.ratios.now a.point _ _ c.number_of.ensures _ c.in-Ratio.is
 
 pub returns-in-Unusable : goal.returns-in-Unusable
 returns-in-Unusable c =
     let a = c.args in
-    put_unusable a.answers.now a.ratios.now a.point _ _ c.number_of.ensures c.enum_told-1.given.1
+    put_unusable a.answers.now a.ratios.now a.point _ _ c.number_of.ensures c.in-Unusable.is
 
 pub returns-in-Fresh : goal.returns-in-Fresh
 returns-in-Fresh c =
     let a = c.args in
-    put_fresh a.answers.now a.ratios.now a.point _ _ c.number_of.ensures c.enum_told-in-Fresh-1.given.1
+    put_fresh a.answers.now a.ratios.now a.point _ _ c.number_of.ensures c.in-Fresh.is

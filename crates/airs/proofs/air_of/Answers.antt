@@ -1,7 +1,5 @@
 -- `airs::air_of` meets its contract: each return by the tests that led there. Assumes nothing.
-use borrow.Author.Rules.{rules}
 use mathlib.Core.Path.{sym, ◌∙◌}
-use mathlib.Core.Bool.{true, false}
 use Rattle.airs.specs.Airs.{deficiency, ratio}
 use Rattle.airs.proofs.Airs.{no_deficiency, below_floor, no_ratio, has_ratio}
 use Rattle.airs.proofs.air_of.Goals as goal

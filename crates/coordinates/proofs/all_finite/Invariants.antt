@@ -1,16 +1,11 @@
 -- `coordinates::all_finite` meets its contract. The loop keeps: the first i are finite. Assumes nothing.
-use borrow.Author.Rules.{rules}
-use mathlib.Core.Path.{◌≡◌, refl, sym, ◌∙◌}
-use mathlib.Core.Bool.{true, false}
+use mathlib.Core.Path.{◌≡◌}
+use mathlib.Core.Bool.{true}
 use Prim.Native.Nat.{◌-◌, ◌≤◌}
-use native.Mathlib.Omega.{arith}
 use lib.Ieee.{nan}
 use lib.Ieee.Scale.{finite}
 use lib.ListN.{length, get_or}
 use Rattle.common.specs.Tests.{each}
-use Rattle.common.proofs.Cases.{of_not}
-use Rattle.common.proofs.Tests.{each_not, each_more}
-use Rattle.coordinates.specs.Coordinates.{all_finite}
 use Rattle.coordinates.proofs.all_finite.Given as goal
 
 abbrev pub invariant-loop-i : goal.invariant-loop-i

@@ -1,18 +1,11 @@
 -- `coordinates::all_in_cell` meets its contract. The loop keeps: the points are in the cell on the axes before `axis`. Assumes nothing.
-use borrow.Author.Rules.{rules}
-use mathlib.Core.Path.{◌≡◌, refl, sym, ap, ◌∙◌}
-use mathlib.Core.Bool.{Bool, true, false}
-use mathlib.Core.List.{List}
-use Prim.Native.Nat.{ℕ, ◌+◌, ◌-◌, ◌*◌, ◌≤◌}
+use mathlib.Core.Path.{◌≡◌, refl, sym, ◌∙◌}
 use native.Mathlib.Nat.{zero-mul}
 use native.Mathlib.Omega.{arith}
-use lib.Ieee.{Float, nan}
-use lib.ListN.{length, get_or}
 use Rattle.common.specs.Tests.{each}
-use Rattle.common.proofs.Cases.{of_not}
 use Rattle.common.proofs.Matrices.{next_column, column_fits}
 use Rattle.common.proofs.Tests.{each_not, each_more}
-use Rattle.coordinates.specs.Coordinates.{coordinate, coordinate_in, in_cell, all_in_cell}
+use Rattle.coordinates.specs.Coordinates.{all_in_cell}
 use Rattle.coordinates.proofs.all_in_cell.Goals.{After-axis_in_cell}
 use Rattle.coordinates.proofs.all_in_cell.Invariants.{on}
 use Rattle.coordinates.proofs.all_in_cell.Goals as goal

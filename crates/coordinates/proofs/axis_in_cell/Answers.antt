@@ -1,10 +1,9 @@
 -- `coordinates::axis_in_cell` meets its contract. The loop keeps: whether the first i points are in the cell. Assumes nothing.
-use borrow.Author.Rules.{rules}
 use mathlib.Core.Path.{◌≡◌, refl, sym, ap, ◌∙◌}
-use mathlib.Core.Bool.{Bool, ◌&&◌}
-use Prim.Native.Nat.{ℕ, ◌+◌, ◌-◌, ◌≤◌}
+use mathlib.Core.Bool.{Bool}
+use Prim.Native.Nat.{ℕ, ◌+◌}
 use native.Mathlib.Omega.{arith}
-use lib.Ieee.{Float, nan}
+use lib.Ieee.{nan}
 use lib.ListN.{get_or}
 use Rattle.common.specs.Tests.{each}
 use Rattle.common.proofs.Tests.{each_next}

@@ -1,10 +1,8 @@
 -- `coordinates::points_number` meets its contract: each return by the tests that led there. Assumes nothing.
 -- WHAT HOLDS past each test
-use borrow.Author.Rules.{rules}
 use mathlib.Core.Path.{◌≡◌, sym, ◌∙◌}
-use mathlib.Core.Bool.{true, false}
+use mathlib.Core.Bool.{true}
 use Rattle.common.specs.Refusals.{is_cell}
-use Rattle.common.proofs.Cases.{of_not}
 use Rattle.coordinates.specs.Coordinates.{all_finite}
 use Rattle.coordinates.proofs.Numbers.{number_cell, number_points, number_centre, number_outside, number_none}
 use Rattle.coordinates.proofs.points_number.Goals.{Else-not-all_finite, Else-not-all_finite-2, Else-not-is_cell}

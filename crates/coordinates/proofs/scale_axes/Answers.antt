@@ -1,12 +1,11 @@
 -- `coordinates::scale_axes` meets its contract. The loop keeps `Stepping`: the axes before `axis` are scaled. Assumes
 -- nothing.
-use borrow.Author.Rules.{rules}
 use mathlib.Core.Path.{◌∙◌}
-use Prim.Native.Nat.{◌+◌, ◌-◌, ◌≤◌}
+use Prim.Native.Nat.{◌+◌, ◌≤◌}
 use native.Mathlib.Omega.{arith}
 use lib.ListN.{length}
 use Rattle.common.specs.Matrices.{cell}
-use Rattle.common.proofs.Steps.{Stepping, stepping_none, stepping_fits, stepping_done}
+use Rattle.common.proofs.Steps.{stepping_none, stepping_fits, stepping_done}
 use Rattle.common.proofs.Matrices.{columns_filled}
 use Rattle.coordinates.specs.Coordinates.{coordinate}
 use Rattle.coordinates.proofs.Steps.{axis_more}

@@ -1,10 +1,8 @@
 -- `coordinates::scale_axis` meets its contract. The loop keeps `Filling`: i points are scaled. Assumes nothing.
-use borrow.Author.Rules.{rules}
-use mathlib.Core.Path.{refl}
 use Prim.Native.Nat.{◌+◌, ◌-◌}
 use lib.Ieee.{nan}
 use lib.ListN.{get_or}
-use Rattle.common.proofs.Fill.{Filling, filling_none, changing_more, filling_done}
+use Rattle.common.proofs.Fill.{Filling}
 use Rattle.coordinates.specs.Coordinates.{coordinate_in}
 use Rattle.coordinates.proofs.scale_axis.Given as goal
 

@@ -4,13 +4,10 @@ use Prim.Native.Nat.{ℕ, min, ◌+◌, ◌-◌, ◌*◌, ◌<◌, ◌≤◌}
 use native.Mathlib.Nat.{add-mul, zero-mul}
 use native.Mathlib.Omega.{arith}
 use lib.ListN.{length}
-use Rattle.common.specs.Floats.{inner}
-use Rattle.common.specs.Lists.{stretch}
-use Rattle.common.specs.Matrices.{cell, matrix}
+use Rattle.common.specs.Matrices.{matrix}
 use Rattle.common.proofs.Fill.{part_length, stretch_length}
 use Rattle.passes.specs.Passes.{directed}
 use Rattle.passes.proofs.Strips.{few_rows, rows_fit, strip_filled, rows_all}
-use borrow.Author.Rules.{rules}
 use Rattle.passes.proofs.pass.Goals.{In-loop-r}
 use Rattle.passes.proofs.pass.Goals as goal
 

@@ -1,16 +1,11 @@
 -- `passes::pass` meets its contract. The loop keeps: the rows before r are filled, and the rest is as it was. Assumes nothing.
-use mathlib.Core.Path.{◌≡◌, refl, sym, ap, ◌∙◌}
-use Prim.Native.Nat.{ℕ, ◌+◌, ◌-◌, ◌*◌, ◌<◌, ◌≤◌}
-use native.Mathlib.Nat.{add-mul, zero-mul}
-use native.Mathlib.Omega.{arith}
+use mathlib.Core.Path.{◌≡◌}
+use Prim.Native.Nat.{◌-◌, ◌*◌, ◌≤◌}
 use lib.ListN.{length}
 use Rattle.common.specs.Floats.{inner}
 use Rattle.common.specs.Lists.{stretch}
 use Rattle.common.specs.Matrices.{cell, matrix}
-use Rattle.common.proofs.Fill.{part_length, stretch_length}
 use Rattle.passes.specs.Passes.{directed}
-use Rattle.passes.proofs.Strips.{few_rows, rows_fit, strip_filled, rows_all}
-use borrow.Author.Rules.{rules}
 use Rattle.passes.proofs.pass.Given as goal
 
 abbrev pub invariant-loop-r : goal.invariant-loop-r

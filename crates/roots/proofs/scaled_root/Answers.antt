@@ -4,7 +4,6 @@ use mathlib.Core.Path.{subst}
 use Prim.Native.Nat.{ℕ, ◌*◌, ◌/◌, ◌%◌, ◌+◌, ◌^◌, ◌≤◌, ◌<◌}
 use native.Mathlib.Omega.{arith}
 use lib.Ieee.{binary64, of_bits}
-use borrow.Author.Rules.{rules}
 use Rattle.roots.specs.Roots.{Nearest}
 use Rattle.roots.proofs.Newton.{Evened}
 use Rattle.roots.proofs.Patterns.{Steps, value, no_nan_bits}

@@ -1,5 +1,4 @@
 -- `coordinates::scaling::scale_points` meets its contract: refused, or scaled. Assumes nothing.
-use borrow.Author.Rules.{rules}
 use mathlib.Core.Path.{sym, ◌∙◌}
 use Rattle.coordinates.proofs.Scalings.{scaling_taken, scale_refused, scale_done}
 use Rattle.coordinates.proofs.scaling.scale_points.Goals as goal

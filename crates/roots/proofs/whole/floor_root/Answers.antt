@@ -1,7 +1,6 @@
 -- `roots::whole::floor_root` meets its contract: a step of Newton's gives a number that is at least the root. Assumes nothing.
 use Prim.Native.Nat.{◌+◌, ◌*◌, ◌/◌, ◌^◌, ◌≤◌}
 use native.Mathlib.Omega.{arith}
-use borrow.Author.Rules.{rules}
 use Rattle.roots.proofs.Newton.{square_le, Step, step}
 use Rattle.roots.proofs.whole.floor_root.Goals.{After-guess-near}
 use Rattle.roots.proofs.whole.floor_root.Goals as goal

@@ -1,9 +1,6 @@
 -- `roots::whole::lowered` meets its contract. The loop keeps that m is below the square of one more than the number, which falls.
 -- Assumes nothing.
 use Prim.Native.Nat.{◌+◌, ◌*◌, ◌<◌, ◌^◌}
-use native.Mathlib.Nat.{le_of_lt}
-use native.Mathlib.Omega.{arith}
-use Rattle.roots.proofs.Newton.{square_pos, square_le, one_less}
 use Rattle.roots.proofs.whole.lowered.Given as goal
 
 abbrev pub invariant-loop-root : goal.invariant-loop-root

@@ -1,6 +1,5 @@
 -- `roots::whole::nearest_root` meets its contract, by the laws of Halves. Assumes nothing.
 use native.Mathlib.Omega.{arith}
-use borrow.Author.Rules.{rules}
 use Rattle.roots.proofs.Newton.{evened_of}
 use Rattle.roots.proofs.Halves.{Known, known, stays, goes_up}
 use Rattle.roots.proofs.whole.nearest_root.Goals.{After-floor_root-high}

@@ -1,0 +1,17 @@
+-- `products::columns::multiply_two` meets its contract. The loop keeps `Filling`: i rows have their products. Assumes nothing.
+use borrow.Author.Rules.{rules}
+use mathlib.Core.Path.{refl, sym, ◌∙◌}
+use Prim.Native.Nat.{◌-◌}
+use native.Mathlib.Nat.{zero-add}
+use native.Mathlib.Omega.{arith}
+use lib.Ieee.{nan}
+use lib.ListN.{get_or}
+use Rattle.common.specs.Floats.{times}
+use Rattle.common.proofs.Fill.{Filling, filling_none, filling_more, filling_done, fill_all}
+use Rattle.products.proofs.columns.multiply_two.Given as goal
+
+abbrev pub invariant-loop-i : goal.invariant-loop-i
+invariant-loop-i l = Filling 0 l.rows (λ j. times (get_or l.first j nan) (get_or l.second j nan)) l.initial.column l.column l.i
+
+abbrev pub decreases-loop-i : goal.decreases-loop-i
+decreases-loop-i l = l.rows - l.i

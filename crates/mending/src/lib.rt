@@ -1,5 +1,7 @@
 // Mending lookup files: records of eight bytes, a dimension, three signed entries, the case, the reference and two zeros. Each is made
 // right, and a line says what became of it.
+#![tactic(auto)]
+
 ghost use Rattle.std.specs.Prelude.{◌≡◌, ◌*◌, leb, length};
 ghost use Rattle.text.specs.Text.{put as Text·put};
 ghost use Rattle.records.specs.Text.{told_answer};

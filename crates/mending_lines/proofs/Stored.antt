@@ -1,13 +1,13 @@
 -- Bytes that are stored one by one, where there is room, are a word that is put; and what is looked at in the record at a place. Assumes
 -- nothing.
-use mathlib.Core.Path.{◌≡◌, refl}
+use mathlib.Core.Path.{◌≡◌}
 use mathlib.Core.Bool.{Bool, ◌&&◌}
 use mathlib.Core.List.{List, [], ◌∷◌, ◌++◌}
 use mathlib.Core.Option.{none, some}
-use Prim.Native.Nat.{ℕ, suc, ◌+◌, ◌-◌, ◌<◌, ◌≤◌, min}
+use Prim.Native.Nat.{ℕ, suc, ◌+◌, ◌-◌, ◌≤◌, min}
 use native.Mathlib.Omega.{arith}
 use lib.Dec.{eqb}
-use lib.ListN.{length, get_or, drop, set, replicate}
+use lib.ListN.{length, get_or, drop, set}
 use lib.Seq.{get_or-drop}
 use Rattle.text.specs.Text.{put}
 use Rattle.text.proofs.Putting.{put_then}

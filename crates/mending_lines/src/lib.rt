@@ -1,4 +1,6 @@
 // Parts of the line that says what became of a record: that it was kept, or the places that change in it. The rule of a record stands here.
+#![tactic(auto)]
+
 ghost use Rattle.std.specs.Prelude.{◌≡◌, ◌+◌, ◌≤◌, eqb, length, drop};
 ghost use Rattle.text.specs.Text.{put as Text·put};
 ghost use Rattle.mending_lines.specs.Records.{kept_line, places};

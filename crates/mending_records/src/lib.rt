@@ -1,4 +1,6 @@
 // One record of a lookup file: what is known of its vector, its right bytes, and the line that says what became of it.
+#![tactic(auto)]
+
 ghost use Rattle.std.specs.Prelude.{◌≡◌, [], ◌∷◌, ◌+◌, ◌≤◌, length, drop};
 ghost use Rattle.text.specs.Text.{put as Text·put};
 ghost use Rattle.vectors.specs.LookUps.{told_look_up};

@@ -1,5 +1,5 @@
 -- What the private functions speak of; no public contract cites it.
-use Rattle.std.specs.Prelude.{◌≡◌, Bool, cond, List, ℕ, ◌*◌, ◌/◌, ◌^◌, Float, length, get_or}
+use Rattle.std.specs.Prelude.{◌≡◌, Bool, cond, List, ℕ, ◌*◌, ◌/◌, ◌^◌, Float, get_or}
 use Rattle.std.specs.Float.{nan, binary64}
 use Rattle.std.specs.Float.Ieee.{of_int}
 use Rattle.common.specs.Refusals.{Shape}

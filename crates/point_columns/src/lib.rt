@@ -1,4 +1,6 @@
 // The points of a block, target or source, as columns: an axis a column, filled from the nodes along it.
+#![tactic(auto)]
+
 mod blocks;
 mod columns;
 

@@ -1,5 +1,7 @@
 // The text that the lookup program answers to records: a line for each record of four bytes, a
 // dimension and three signed bytes.
+#![tactic(auto)]
+
 ghost use Rattle.std.specs.Prelude.{◌≡◌, leb, length};
 ghost use Rattle.text.specs.Text.{put as Text·put};
 ghost use Rattle.vectors.specs.LookUps.{told_look_up, look_up};

@@ -3,10 +3,10 @@ use mathlib.Core.Path.{◌≡◌, sym, ap, ◌∙◌}
 use mathlib.Core.List.{List}
 use Prim.Native.Nat.{ℕ, ◌^◌, ◌<◌}
 use lib.Dec.{ltb}
-use lib.ListN.{length, get_or}
+use lib.ListN.{length}
 use borrow.Author.Tests.{ltb-true}
 use Rattle.common.specs.Lists.{tabulate}
-use Rattle.common.specs.Refusals.{Shape, is_dimension, is_order}
+use Rattle.common.specs.Refusals.{Shape}
 use Rattle.common.proofs.Answers.{done_by}
 use Rattle.common.proofs.Fill.{get_d_tabulate}
 use Rattle.common.proofs.Limits.{left_done, passed, shape_passed}
@@ -17,7 +17,7 @@ use Rattle.vectors.specs.declared.Known.{Known}
 use Rattle.turn_tables.specs.Turned.{turned, returned}
 use Rattle.turn.specs.Tables.{table_number, table_call}
 use Rattle.turn.specs.Follow.{follow_number, moves_of, told_followed, follow_call}
-use Rattle.turn.specs.FollowCalls.{FollowsTables, NodesAreFollowed}
+use Rattle.turn.specs.FollowCalls.{NodesAreFollowed}
 use Rattle.turn.specs.declared.follow.Moves.{Moves}
 use Rattle.turn.specs.declared.follow.Followed.TheVariants as followed
 use Rattle.turn_tables.proofs.Nodes.{turned_below, returned_below, returned_turned, turned_returned}

@@ -1,10 +1,10 @@
 -- Demand 3 of the calls: for a far vector all four succeed, and what they answer and leave is right. Assumes nothing.
-use mathlib.Core.Path.{◌≡◌, refl, sym, ap, ◌∙◌}
+use mathlib.Core.Path.{◌≡◌, refl, sym}
 use mathlib.Core.List.{List}
-use Prim.Native.Nat.{ℕ, zero, suc, ◌+◌, ◌-◌, ◌^◌, ◌<◌, ◌≤◌}
+use Prim.Native.Nat.{ℕ, ◌+◌, ◌-◌, ◌^◌, ◌<◌, ◌≤◌}
 use native.Mathlib.Omega.{arith}
-use lib.IntN.{ℤ, pos, nat_abs}
-use lib.ListN.{length, get_or}
+use lib.IntN.{nat_abs}
+use lib.ListN.{length}
 use borrow.Author.Tests.{lt-ltb, eq-eqb, le-leb}
 use Rattle.common.specs.Lists.{tabulate}
 use Rattle.common.specs.Refusals.{Shape}
@@ -14,7 +14,7 @@ use Rattle.common.proofs.Fill.{get_d_tabulate}
 use Rattle.common.proofs.Limits.{call_done}
 use Rattle.common.proofs.Tests.{each_of}
 use Rattle.vectors.specs.declared.Vector.{Vector}
-use Rattle.vectors.specs.Vectors.{sizes, at_most, case, references, entry, reference}
+use Rattle.vectors.specs.Vectors.{sizes, at_most, case, references, reference}
 use Rattle.turn_tables.specs.Turned.{turned, returned}
 use Rattle.turn.specs.Tables.{cases, table_number, table_call}
 use Rattle.vectors.specs.LookUps.{entries, look_up, look_up_number, known_of, reference_call, reference_number, reference_at}

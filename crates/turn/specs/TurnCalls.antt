@@ -1,5 +1,5 @@
 -- DEMAND 3 OF THE CALLS: what the four calls answer and leave for a far vector; proofs/RightCalls.antt proves it.
-use Rattle.std.specs.Prelude.{◌≡◌, List, ℕ, ◌^◌, ◌≤◌, ℤ, pos, length, get_or}
+use Rattle.std.specs.Prelude.{◌≡◌, List, ℕ, ◌≤◌, pos, get_or}
 use Rattle.vectors.specs.declared.Known.{Known}
 use Rattle.vectors.specs.declared.Vector.{Vector}
 use Rattle.vectors.specs.declared.LookUp.TheVariants as look

@@ -1,4 +1,6 @@
 // One node of the reference block by its indices: where it goes, and which node comes to its place.
+#![tactic(auto)]
+
 ghost use Rattle.std.specs.Prelude.{◌≡◌, ◌<◌, ◌≤◌};
 ghost use Rattle.common.specs.Digits.{from_digits};
 ghost use Rattle.common.specs.Factorials.{factorial};

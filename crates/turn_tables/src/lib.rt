@@ -1,5 +1,7 @@
 // The walk that fills the table of a case, or its inverse: the image of a node moves by a fixed step an axis. Beside it what it shares
 // with following one node: the axis at a place of an order, and an index reversed.
+#![tactic(auto)]
+
 ghost use Rattle.std.specs.Prelude.{◌≡◌, ◌+◌, ◌^◌, ◌<◌, ◌≤◌, length};
 ghost use Rattle.common.specs.Lists.{stores};
 ghost use Rattle.common.specs.Refusals.{Shape};

@@ -2,7 +2,7 @@
 use mathlib.Core.Path.{◌≡◌, refl, sym, ap, ◌∙◌}
 use mathlib.Core.Bool.{Bool, true, false, ◌&&◌, and-eq-true_iff, cond}
 use Prim.Native.Nat.{ℕ, zero, suc, ◌+◌, ◌-◌, ◌*◌, ◌<◌, ◌≤◌}
-use native.Mathlib.Nat.{zero-add, zero-mul, pow-le-pow_right}
+use native.Mathlib.Nat.{pow-le-pow_right}
 use native.Mathlib.Omega.{arith}
 use lib.Dec.{leb, ltb, eqb}
 use lib.IntN.{ℤ, pos, negsuc, nat_abs, ◌+ℤ◌}
@@ -12,7 +12,7 @@ use mir.Facts.{to_z-of_z}
 use borrow.Author.Tests.{le-leb, lt-leb, leb-true, ltb-true, eqb-true, lt-ltb}
 use Rattle.common.specs.Tests.{each}
 use Rattle.common.specs.Digits.{from_digits}
-use Rattle.common.specs.Refusals.{is_dimension, lower}
+use Rattle.common.specs.Refusals.{is_dimension}
 use Rattle.common.proofs.Answers.{answer_refused}
 use Rattle.common.proofs.Limits.{passed}
 use Rattle.common.proofs.Cases.{by_lt, fun_ext, inside_low, inside_high}

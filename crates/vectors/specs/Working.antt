@@ -1,5 +1,5 @@
 -- What the private functions speak of; no public contract cites it. An entry is held as a digit, three more than it is.
-use Rattle.std.specs.Prelude.{ℕ, zero, suc, ◌+◌, ◌-◌, ◌<◌, ◌≤◌, min, ◌≡◌, Bool, cond, ◌&&◌, ◌||◌, leb, ltb, eqb, ℤ, pos, nat_abs, ◌+ℤ◌, ◌-ℤ◌}
+use Rattle.std.specs.Prelude.{ℕ, zero, suc, ◌+◌, ◌-◌, ◌<◌, min, ◌≡◌, Bool, cond, ◌&&◌, ◌||◌, leb, ltb, eqb, ℤ, pos, nat_abs, ◌+ℤ◌, ◌-ℤ◌}
 use Rattle.common.specs.Tests.{each}
 use Rattle.common.specs.Refusals.{no_dimension, no_entry, not_zero, unless, is_dimension}
 use Rattle.common.specs.Threes.{three}

@@ -1,4 +1,6 @@
 // Looking up a vector: its index, its case and its reference. An entry is held as a digit, three more than it is.
+#![tactic(auto)]
+
 ghost use Rattle.std.specs.Prelude.{◌≡◌, ◌+◌, ◌*◌, ◌<◌, ◌≤◌, min, max};
 ghost use Rattle.common.specs.Digits.{from_digits};
 ghost use Rattle.common.specs.Threes.{three, Small};
@@ -12,11 +14,11 @@ ghost use Rattle.vectors.specs.Working.{digits_number, are_entries, are_zeros, k
 use common::Three;
 
 // A vector between two blocks: one whole number an axis, 0 past the dimension.
-#[derive(Drop)]
+#[derive(Clone, Copy)]
 pub struct Vector(pub i32, pub i32, pub i32);
 
 // What is known of a vector.
-#[derive(Drop)]
+#[derive(Clone, Copy)]
 pub struct Known {
     pub index: usize,
     pub case: usize,
@@ -24,7 +26,7 @@ pub struct Known {
     pub near: bool,
 }
 
-#[derive(Drop)]
+#[derive(Clone, Copy)]
 pub enum LookUp {
     Refused(u8),
     Found(Known),
@@ -32,7 +34,7 @@ pub enum LookUp {
 
 // How a vector turns its reference: which of its entries are negative, so that the axis is reversed, and the number of the order of
 // its axes by falling size.
-#[derive(Drop)]
+#[derive(Clone, Copy)]
 pub struct Turn {
     pub first: bool,
     pub second: bool,

@@ -7,46 +7,46 @@ use Rattle.vectors.proofs.Sizes.{ends_fit, all_most, triangle_most, reference_ne
 use Rattle.vectors.proofs.reference_of.Statement.{statement}
 use Rattle.vectors.proofs.reference_of.Tie as tie
 
-largest-of-requires : tie.Need-largest-of-requires
+largest-of-requires : tie.Need-largest_of-large-requires
 largest-of-requires c κs = search rules
 
-returns : tie.Need-returns
+returns : tie.Need-returns-then-large-lt2
 returns c =
     let s = c.before.before in
-    reference_near s.args.dimension s.args.s s.requires.0 s.requires.1 c.before.largest-of.result
-    c.before.largest-of.ensures c.if1.true
+    reference_near s.args.dimension s.args.s s.requires.0 s.requires.1 c.before.largest_of-large.result
+    c.before.largest_of-large.ensures c.if-large-lt2.true
 
-returns-2 : tie.Need-returns-2
+returns-2 : tie.Need-returns-then-dimension-lt2
 returns-2 c =
     let s = c.before.before.before in
-    reference_one s.args.dimension s.args.s s.requires.0 s.requires.1 c.before.before.largest-of.result
-    c.before.before.largest-of.ensures c.before.if1.false c.if2.true
+    reference_one s.args.dimension s.args.s s.requires.0 s.requires.1 c.before.before.largest_of-large.result
+    c.before.before.largest_of-large.ensures c.before.if-large-lt2.false c.if-dimension-lt2.true
 
-smallest-of-requires : tie.Need-smallest-of-requires
+smallest-of-requires : tie.Need-smallest_of-small-requires
 smallest-of-requires c κs = search rules
 
-add-middle : tie.Need-overflow-add-middle
+add-middle : tie.Need-overflow_add-middle
 add-middle c = let p = c.before.before.before.before.before.requires.0 in omega (arith, p.first, p.second)
 
-add-middle-2 : tie.Need-overflow-add-middle-2
+add-middle-2 : tie.Need-overflow_add-middle-2
 add-middle-2 c = let p = c.before.before.before.before.before.before.requires.0 in omega (arith, p.first, p.second, p.third)
 
 -- the largest and the smallest are two of the three sizes
-fits : (c : tie.After-struct-known2) → c.before.before.before.before.before.largest-of.result + c.before.before.smallest-of.result
+fits : (c : tie.After-struct_known-2-1) → c.before.before.before.before.before.largest_of-large.result + c.before.before.smallest_of-small.result
     ≤ c.before.before.before.before.before.before.args.s.0 + c.before.before.before.before.before.before.args.s.1 + c.before.before.before.before.before.before.args.s.2
 fits c =
     let s = c.before.before.before.before.before.before in
     let l = c.before.before.before.before.before in
-    ends_fit s.args.dimension s.args.s s.requires.0 s.requires.1 l.largest-of.result l.largest-of.ensures
-    c.before.before.smallest-of.result c.before.before.smallest-of.ensures
+    ends_fit s.args.dimension s.args.s s.requires.0 s.requires.1 l.largest_of-large.result l.largest_of-large.ensures
+    c.before.before.smallest_of-small.result c.before.before.smallest_of-small.ensures
 
 -- each of the three is at most 3
-module _ (c : tie.After-struct-known2) where
+module _ (c : tie.After-struct_known-2-1) where
   large : ℕ
-  large = c.before.before.before.before.before.largest-of.result
+  large = c.before.before.before.before.before.largest_of-large.result
 
   small : ℕ
-  small = c.before.before.smallest-of.result
+  small = c.before.before.smallest_of-small.result
 
   middle : ℕ
   middle =
@@ -58,45 +58,45 @@ module _ (c : tie.After-struct-known2) where
   most =
       let s = c.before.before.before.before.before.before in
       let l = c.before.before.before.before.before in
-      all_most s.args.dimension s.args.s s.requires.0 s.requires.1 l.largest-of.result l.largest-of.ensures
-      c.before.before.smallest-of.result c.before.before.smallest-of.ensures
+      all_most s.args.dimension s.args.s s.requires.0 s.requires.1 l.largest_of-large.result l.largest_of-large.ensures
+      c.before.before.smallest_of-small.result c.before.before.smallest_of-small.ensures
 
-sub-middle : tie.Need-overflow-sub-middle
+sub-middle : tie.Need-overflow_sub-middle
 sub-middle c = omega (arith, fits c)
 
-sub-middle-2 : tie.Need-overflow-sub-middle-2
+sub-middle-2 : tie.Need-overflow_sub-middle-2
 sub-middle-2 c = omega (arith, fits c)
 
-mul-result : tie.Need-overflow-mul-result
+mul-result : tie.Need-overflow_mul-result
 unfolding large middle small
 mul-result c = omega (arith, most c.before)
 
-add-result : tie.Need-overflow-add-result
+add-result : tie.Need-overflow_add-result
 unfolding large middle small
 add-result c = omega (arith, most c.before)
 
-returns-3 : tie.Need-returns-3
+returns-3 : tie.Need-returns-then-dimension-lt3
 returns-3 c =
     let t = c.before.before.before in
     let s = c.before.before.before.before.before.before.before in
     let l = c.before.before.before.before.before.before in
-    reference_two s.args.dimension s.args.s s.requires.0 s.requires.1 l.largest-of.result l.largest-of.ensures
-    t.smallest-of.result t.smallest-of.ensures
-    c.before.before.before.before.before.if1.false c.before.before.before.before.if2.false c.if3.true
+    reference_two s.args.dimension s.args.s s.requires.0 s.requires.1 l.largest_of-large.result l.largest_of-large.ensures
+    t.smallest_of-small.result t.smallest_of-small.ensures
+    c.before.before.before.before.before.if-large-lt2.false c.before.before.before.before.if-dimension-lt2.false c.if-dimension-lt3.true
 
-mul-result-2 : tie.Need-overflow-mul-result-2
+mul-result-2 : tie.Need-overflow_mul-result-2
 unfolding large middle small
 mul-result-2 c = omega (arith, most c.before)
 
-add-result-2 : tie.Need-overflow-add-result-2
+add-result-2 : tie.Need-overflow_add-result-2
 unfolding large middle small
 add-result-2 c = omega (arith, most c.before)
 
-mul-result-3 : tie.Need-overflow-mul-result-3
+mul-result-3 : tie.Need-overflow_mul-result-3
 unfolding large middle small
 mul-result-3 c = omega (arith, triangle_most (middle c.before) (most c.before).1)
 
-add-result-3 : tie.Need-overflow-add-result-3
+add-result-3 : tie.Need-overflow_add-result-3
 unfolding large middle small
 add-result-3 c =
     omega (
@@ -107,7 +107,7 @@ add-result-3 c =
           (middle c.before * (middle c.before + 1)) 2,
     )
 
-add-result-4 : tie.Need-overflow-add-result-4
+add-result-4 : tie.Need-overflow_add-result-4
 unfolding large middle small
 add-result-4 c =
     omega (
@@ -118,17 +118,17 @@ add-result-4 c =
           (middle c.before * (middle c.before + 1)) 2,
     )
 
-returns-4 : tie.Need-returns-4
+returns-4 : tie.Need-returns
 returns-4 c =
     let t = c.before.before.before in
     let s = c.before.before.before.before.before.before.before in
     let l = c.before.before.before.before.before.before in
-    reference_three s.args.dimension s.args.s s.requires.0 s.requires.1 l.largest-of.result l.largest-of.ensures
-    t.smallest-of.result t.smallest-of.ensures
-    c.before.before.before.before.before.if1.false c.if3.false
+    reference_three s.args.dimension s.args.s s.requires.0 s.requires.1 l.largest_of-large.result l.largest_of-large.ensures
+    t.smallest_of-small.result t.smallest_of-small.ensures
+    c.before.before.before.before.before.if-large-lt2.false c.if-dimension-lt3.false
 
-pub reference-of-spec : {M : Type 1} → statement M
-reference-of-spec =
+pub reference_of_spec : {M : Type 1} → statement M
+reference_of_spec =
     tie.close
     (tie.spec
     largest-of-requires

@@ -1,4 +1,6 @@
 // The pivot of a line: its largest entry, among those that a mask or flags let count; and the flags of what is still unused.
+#![tactic(auto)]
+
 mod flags;
 mod search;
 

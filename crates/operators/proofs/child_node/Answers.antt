@@ -1,5 +1,4 @@
 -- `operators::child_node` meets its contract: by the half that the child lies in. Assumes nothing.
-use borrow.Author.Rules.{rules}
 use Rattle.operators.proofs.Columns.{lower_node, upper_node}
 use Rattle.operators.proofs.child_node.Goals as goal
 

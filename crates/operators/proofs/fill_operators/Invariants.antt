@@ -1,17 +1,11 @@
 -- `operators::fill_operators` meets its contract. The loop keeps: the columns before c are filled, and the rest is as it was.
 -- Assumes nothing.
-use borrow.Author.Rules.{rules}
-use mathlib.Core.Path.{◌≡◌, refl, sym, ap, ◌∙◌}
+use mathlib.Core.Path.{◌≡◌}
 use Prim.Native.Nat.{◌+◌, ◌-◌, ◌*◌, ◌≤◌}
-use native.Mathlib.Nat.{zero-mul}
-use native.Mathlib.Omega.{arith}
 use lib.ListN.{length}
-use Rattle.common.specs.Floats.{over, one₆₄, two₆₄}
 use Rattle.common.specs.Lists.{stretch}
 use Rattle.common.specs.Matrices.{cell}
 use Rattle.operators.specs.Operators.{operator}
-use Rattle.common.proofs.Matrices.{next_column, column_fits}
-use Rattle.operators.proofs.Columns.{column_done, columns_all}
 use Rattle.operators.proofs.fill_operators.Given as goal
 
 abbrev pub invariant-loop-c : goal.invariant-loop-c

@@ -1,6 +1,5 @@
 -- `operators::get_m2m_transfer_operators` meets its contract: refused, or filled. Assumes nothing.
 use mathlib.Core.Path.{sym, ◌∙◌}
-use borrow.Author.Rules.{rules}
 use lib.ListN.{length}
 use Rattle.operators.proofs.Calls.{operators_accepted, operators_refused, operators_done}
 use Rattle.operators.proofs.get_m2m_transfer_operators.Goals as goal

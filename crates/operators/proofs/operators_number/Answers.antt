@@ -3,7 +3,6 @@ use mathlib.Core.Path.{sym, ◌∙◌}
 use Prim.Native.Nat.{◌+◌}
 use native.Mathlib.Nat.{mul-le-mul}
 use native.Mathlib.Omega.{arith}
-use borrow.Author.Rules.{rules}
 use Rattle.common.proofs.Limits.{order_taken}
 use Rattle.operators.proofs.Calls.{operators_order, operators_nodes, operators_polynomials, operators_length, operators_none}
 use Rattle.operators.proofs.operators_number.Goals as goal

@@ -1,11 +1,9 @@
 -- `operators::scale_column` meets its contract. The loop keeps `Filling`: i rows are scaled. Assumes nothing.
-use borrow.Author.Rules.{rules}
-use mathlib.Core.Path.{refl}
 use Prim.Native.Nat.{◌+◌, ◌-◌}
 use lib.Ieee.{nan}
 use lib.ListN.{get_or}
 use Rattle.common.specs.Floats.{minus, times}
-use Rattle.common.proofs.Fill.{Filling, filling_none, changing_more, filling_done}
+use Rattle.common.proofs.Fill.{Filling}
 use Rattle.operators.proofs.scale_column.Given as goal
 
 abbrev pub invariant-loop-i : goal.invariant-loop-i

@@ -1,17 +1,11 @@
 -- `operators::sum_column` meets its contract. The loop keeps: each row has the sum of its first k terms, and t and next are T k
 -- and T (k + 1) at the child's node. Assumes nothing.
-use borrow.Author.Rules.{rules}
-use mathlib.Core.Path.{◌≡◌, refl, sym, ◌∙◌}
+use mathlib.Core.Path.{◌≡◌}
 use Prim.Native.Nat.{◌+◌, ◌-◌, ◌*◌, ◌≤◌}
-use native.Mathlib.Nat.{zero-mul}
-use native.Mathlib.Omega.{arith}
 use lib.ListN.{length}
 use Rattle.common.specs.Lists.{stretch}
 use Rattle.polynomial_columns.specs.Recurrence.{T}
-use Rattle.operators.specs.Working.{term_of, part_of}
-use Rattle.common.proofs.Matrices.{next_column, column_fits}
-use Rattle.common.proofs.Sums.{adding_none, adding_next, adding_all}
-use Rattle.operators.proofs.Columns.{T_next}
+use Rattle.operators.specs.Working.{part_of}
 use Rattle.operators.proofs.sum_column.Given as goal
 
 abbrev pub invariant-loop-k : goal.invariant-loop-k

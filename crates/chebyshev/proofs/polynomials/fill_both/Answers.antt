@@ -1,17 +1,12 @@
 -- `chebyshev::polynomials::fill_both` meets its contract. The loop keeps: the columns before j are filled in both buffers, and the rest
 -- is as it was. Assumes nothing.
 use mathlib.Core.Path.{◌≡◌, refl, sym, ◌∙◌}
-use Prim.Native.Nat.{◌+◌, ◌-◌, ◌*◌, ◌≤◌}
+use Prim.Native.Nat.{◌+◌, ◌*◌, ◌≤◌}
 use native.Mathlib.Nat.{zero-mul}
 use native.Mathlib.Omega.{arith}
-use lib.Ieee.{nan}
-use lib.ListN.{length, get_or}
-use Rattle.common.specs.Lists.{stretch}
-use Rattle.common.specs.Matrices.{cell}
 use Rattle.common.proofs.Matrices.{next_column, column_fits}
 use Rattle.polynomial_columns.specs.Recurrence.{T, T'}
 use Rattle.chebyshev.proofs.Columns.{values_filled, slopes_filled, columns_all}
-use borrow.Author.Rules.{rules}
 use Rattle.chebyshev.proofs.polynomials.fill_both.Goals.{In-loop-j}
 use Rattle.chebyshev.proofs.polynomials.fill_both.Goals as goal
 

@@ -1,14 +1,8 @@
 -- `chebyshev::polynomials::fill_polynomials` meets its contract. The loop keeps: the columns before j are filled, and the rest is as it
 -- was. Assumes nothing.
-use borrow.Author.Rules.{rules}
 use mathlib.Core.Path.{◌≡◌, refl, sym, ◌∙◌}
-use Prim.Native.Nat.{◌-◌, ◌*◌, ◌≤◌}
 use native.Mathlib.Nat.{zero-mul}
 use native.Mathlib.Omega.{arith}
-use lib.Ieee.{nan}
-use lib.ListN.{length, get_or}
-use Rattle.common.specs.Lists.{stretch}
-use Rattle.common.specs.Matrices.{cell}
 use Rattle.polynomial_columns.specs.Recurrence.{T}
 use Rattle.common.proofs.Matrices.{next_column, column_fits}
 use Rattle.chebyshev.proofs.Columns.{values_filled, columns_all}

@@ -2,7 +2,6 @@
 use mathlib.Core.Path.{sym, ◌∙◌}
 use native.Mathlib.Nat.{mul-le-mul}
 use native.Mathlib.Omega.{arith}
-use borrow.Author.Rules.{rules}
 use Rattle.common.proofs.Limits.{order_taken}
 use Rattle.chebyshev.proofs.Calls.{polynomials_order, polynomials_count, polynomials_points, polynomials_values, polynomials_slopes}
 use Rattle.chebyshev.proofs.Calls.{polynomials_none}

@@ -2,7 +2,6 @@
 use mathlib.Core.Bool.{true}
 use mathlib.Core.Path.{◌≡◌, sym, ◌∙◌}
 use Prim.Native.Nat.{◌*◌}
-use borrow.Author.Rules.{rules}
 use lib.ListN.{length}
 use Rattle.chebyshev.proofs.Calls.{Lengths}
 use Rattle.chebyshev.proofs.Seconds.{second_accepted, second_refused, second_done}

@@ -1,18 +1,13 @@
 -- `chebyshev::second::fill_three` meets its contract. The loop keeps: the columns before j are filled in three buffers, and the rest is as
 -- it was. Assumes nothing.
 use mathlib.Core.Path.{◌≡◌, refl, sym, ◌∙◌}
-use Prim.Native.Nat.{◌+◌, ◌-◌, ◌*◌, ◌≤◌}
+use Prim.Native.Nat.{◌+◌, ◌*◌, ◌≤◌}
 use native.Mathlib.Nat.{zero-mul}
 use native.Mathlib.Omega.{arith}
-use lib.Ieee.{nan}
-use lib.ListN.{length, get_or}
-use Rattle.common.specs.Lists.{stretch}
-use Rattle.common.specs.Matrices.{cell}
 use Rattle.common.proofs.Matrices.{next_column, column_fits}
 use Rattle.polynomial_columns.specs.Recurrence.{T, T', T''}
 use Rattle.chebyshev.proofs.Columns.{values_filled, slopes_filled, columns_all}
 use Rattle.chebyshev.proofs.Seconds.{bends_filled}
-use borrow.Author.Rules.{rules}
 use Rattle.chebyshev.proofs.second.fill_three.Goals.{In-loop-j}
 use Rattle.chebyshev.proofs.second.fill_three.Goals as goal
 

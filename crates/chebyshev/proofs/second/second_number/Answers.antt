@@ -1,6 +1,5 @@
 -- `chebyshev::second::second_number` meets its contract: each return by the tests that led there. Assumes nothing.
 use mathlib.Core.Path.{sym, ◌∙◌}
-use borrow.Author.Rules.{rules}
 use Rattle.chebyshev.proofs.Seconds.{second_first, second_short, second_none}
 use Rattle.chebyshev.proofs.second.second_number.Goals as goal
 

@@ -1,19 +1,13 @@
 -- `axes::fill_axes` meets its contract. The loop keeps: the columns of the axes before `axis` are filled. Assumes nothing.
-use borrow.Author.Rules.{rules}
-use mathlib.Core.Path.{◌≡◌, refl, sym, ◌∙◌}
+use mathlib.Core.Path.{◌≡◌}
 use mathlib.Core.Bool.{cond}
-use Prim.Native.Nat.{◌+◌, ◌-◌, ◌*◌, ◌≤◌}
-use native.Mathlib.Nat.{zero-add, zero-mul, mul_assoc, mul-le-mul}
-use native.Mathlib.Omega.{arith}
+use Prim.Native.Nat.{◌-◌, ◌*◌}
 use lib.ListN.{length}
-use lib.Seq.{length-take-le}
 use Rattle.common.specs.Lists.{stretch}
 use Rattle.common.specs.Matrices.{cell}
-use Rattle.common.proofs.Fill.{part_length}
-use Rattle.common.proofs.Matrices.{next_column, column_fits, columns_filled}
-use Rattle.common.proofs.Steps.{Stepping, stepping_none, stepping_more, stepping_done}
+use Rattle.common.proofs.Steps.{Stepping}
 use Rattle.axes.specs.Axes.{S, S'}
-use Rattle.axes.proofs.Stretches.{axes_at, axis_block, wanted_fits, wanted_none, wanted_more, wanted_filled}
+use Rattle.axes.proofs.Stretches.{axes_at}
 use Rattle.axes.proofs.fill_axes.Given as goal
 
 abbrev pub invariant-loop-axis : goal.invariant-loop-axis

@@ -1,6 +1,5 @@
 -- `axes::fill_axis` meets its contract: sums of the polynomials, finished; and of the derivatives if they are wanted. Assumes
 -- nothing.
-use borrow.Author.Rules.{rules}
 use mathlib.Core.Path.{ap, ◌∙◌}
 use Prim.Native.Nat.{◌+◌, ◌*◌, ◌≤◌}
 use native.Mathlib.Nat.{mul-le-mul}

@@ -1,10 +1,8 @@
 -- `axes::finish_slopes` meets its contract. The loop keeps `Filling`: k sums are finished. Assumes nothing.
-use borrow.Author.Rules.{rules}
-use mathlib.Core.Path.{refl}
 use Prim.Native.Nat.{◌+◌, ◌-◌}
 use lib.Ieee.{nan}
 use lib.ListN.{get_or}
-use Rattle.common.proofs.Fill.{Filling, filling_none, changing_more, filling_done}
+use Rattle.common.proofs.Fill.{Filling}
 use Rattle.axes.specs.Axes.{slope_of}
 use Rattle.axes.proofs.finish_slopes.Given as goal
 

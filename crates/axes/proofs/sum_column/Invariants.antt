@@ -1,15 +1,9 @@
 -- `axes::sum_column` meets its contract. The loop keeps: each row has the sum of its first k terms. Assumes nothing.
-use borrow.Author.Rules.{rules}
-use mathlib.Core.Path.{◌≡◌, refl, sym, ◌∙◌}
-use Prim.Native.Nat.{◌+◌, ◌-◌, ◌*◌, ◌<◌, ◌≤◌}
-use native.Mathlib.Nat.{zero-mul, zero-add}
-use native.Mathlib.Omega.{arith}
-use lib.Arith.{digits_lt}
+use mathlib.Core.Path.{◌≡◌}
+use Prim.Native.Nat.{◌+◌, ◌-◌, ◌*◌, ◌≤◌}
 use lib.ListN.{length}
 use Rattle.common.specs.Lists.{stretch}
 use Rattle.common.specs.Floats.{sums}
-use Rattle.common.proofs.Matrices.{next_column, column_fits}
-use Rattle.common.proofs.Sums.{adding_none, adding_next, adding_all}
 use Rattle.axes.specs.Axes.{term_of}
 use Rattle.axes.proofs.sum_column.Given as goal
 

@@ -1,11 +1,10 @@
 -- `axes::sum_columns` meets its contract. The loop keeps `Stepping`: the columns before `node` are summed. Assumes nothing.
-use borrow.Author.Rules.{rules}
 use mathlib.Core.Path.{sym}
-use Prim.Native.Nat.{◌+◌, ◌-◌, ◌≤◌}
+use Prim.Native.Nat.{◌+◌, ◌≤◌}
 use native.Mathlib.Omega.{arith}
 use lib.ListN.{length}
 use Rattle.common.specs.Matrices.{cell}
-use Rattle.common.proofs.Steps.{Stepping, stepping_none, stepping_fits, stepping_more, stepping_done}
+use Rattle.common.proofs.Steps.{stepping_none, stepping_fits, stepping_more, stepping_done}
 use Rattle.common.proofs.Matrices.{cell_at}
 use Rattle.axes.specs.Axes.{sum_of}
 use Rattle.axes.proofs.sum_columns.Goals.{In-loop-node}

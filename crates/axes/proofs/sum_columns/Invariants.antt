@@ -1,12 +1,7 @@
 -- `axes::sum_columns` meets its contract. The loop keeps `Stepping`: the columns before `node` are summed. Assumes nothing.
-use borrow.Author.Rules.{rules}
-use mathlib.Core.Path.{sym}
-use Prim.Native.Nat.{◌+◌, ◌-◌, ◌≤◌}
-use native.Mathlib.Omega.{arith}
-use lib.ListN.{length}
+use Prim.Native.Nat.{◌-◌}
 use Rattle.common.specs.Matrices.{cell}
-use Rattle.common.proofs.Steps.{Stepping, stepping_none, stepping_fits, stepping_more, stepping_done}
-use Rattle.common.proofs.Matrices.{cell_at}
+use Rattle.common.proofs.Steps.{Stepping}
 use Rattle.axes.specs.Axes.{sum_of}
 use Rattle.axes.proofs.sum_columns.Given as goal
 

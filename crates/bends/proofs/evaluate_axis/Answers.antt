@@ -1,12 +1,9 @@
 -- `bends::evaluate_axis` meets its contract: a call that was lent three stretches has filled them. Assumes nothing.
 use Prim.Native.Nat.{◌*◌}
-use native.Mathlib.Nat.{mul-le-mul}
-use native.Mathlib.Omega.{arith}
 use Rattle.common.specs.Matrices.{column_major}
 use Rattle.common.proofs.Fill.{stretch_part, part_length}
 use mathlib.Core.Path.{refl}
 use Rattle.chebyshev.proofs.Seconds.{second_filled}
-use borrow.Author.Rules.{rules}
 use Rattle.bends.proofs.evaluate_axis.Goals as goal
 
 pub returns : goal.returns

@@ -1,10 +1,8 @@
 -- `bends::fill_bends` meets its contract: sums, and what they become. Assumes nothing.
-use Prim.Native.Nat.{◌*◌}
 use native.Mathlib.Nat.{mul-le-mul}
 use native.Mathlib.Omega.{arith}
 use Rattle.bends.specs.Bends.{bend_of}
 use Rattle.bends.proofs.Rooms.{sums_finished}
-use borrow.Author.Rules.{rules}
 use Rattle.bends.proofs.fill_bends.Goals as goal
 
 pub sum_columns-requires : goal.sum_columns-requires

@@ -1,16 +1,13 @@
 -- `bends::fill_bent_axes` meets its contract. The loop keeps: the stretches of the axes before `axis` are filled, and the room is that of
 -- the axis before. Assumes nothing.
 use borrow.Author.Rules.{rules}
-use mathlib.Core.Path.{◌≡◌, refl, sym, ◌∙◌}
-use Prim.Native.Nat.{◌+◌, ◌-◌, ◌*◌, ◌≤◌}
+use mathlib.Core.Path.{refl, sym, ◌∙◌}
+use Prim.Native.Nat.{◌+◌, ◌*◌, ◌≤◌}
 use native.Mathlib.Nat.{zero-mul, mul_assoc, mul-le-mul}
 use native.Mathlib.Omega.{arith}
-use lib.ListN.{length}
 use Rattle.common.proofs.Fill.{part_length}
 use Rattle.common.proofs.Matrices.{next_column, column_fits}
-use Rattle.common.specs.Matrices.{cell}
-use Rattle.common.proofs.Steps.{Stepping, stepping_none}
-use Rattle.axes.proofs.Stretches.{axes_at}
+use Rattle.common.proofs.Steps.{stepping_none}
 use Rattle.axes.specs.Axes.{S, S'}
 use Rattle.bends.specs.Bends.{S''}
 use Rattle.bends.specs.Working.{room_after}

@@ -1,20 +1,14 @@
 -- `bends::fill_bent_axes` meets its contract. The loop keeps: the stretches of the axes before `axis` are filled, and the room is that of
 -- the axis before. Assumes nothing.
-use borrow.Author.Rules.{rules}
-use mathlib.Core.Path.{◌≡◌, refl, sym, ◌∙◌}
-use Prim.Native.Nat.{◌+◌, ◌-◌, ◌*◌, ◌≤◌}
-use native.Mathlib.Nat.{zero-mul, mul_assoc, mul-le-mul}
-use native.Mathlib.Omega.{arith}
+use mathlib.Core.Path.{◌≡◌}
+use Prim.Native.Nat.{◌-◌, ◌*◌, ◌≤◌}
 use lib.ListN.{length}
-use Rattle.common.proofs.Fill.{part_length}
-use Rattle.common.proofs.Matrices.{next_column, column_fits}
 use Rattle.common.specs.Matrices.{cell}
-use Rattle.common.proofs.Steps.{Stepping, stepping_none}
+use Rattle.common.proofs.Steps.{Stepping}
 use Rattle.axes.proofs.Stretches.{axes_at}
 use Rattle.axes.specs.Axes.{S, S'}
 use Rattle.bends.specs.Bends.{S''}
 use Rattle.bends.specs.Working.{room_after}
-use Rattle.bends.proofs.Loops.{axis_more, axes_done, room_more, room_done}
 use Rattle.bends.proofs.fill_bent_axes.Given as goal
 
 abbrev pub invariant-loop-axis : goal.invariant-loop-axis

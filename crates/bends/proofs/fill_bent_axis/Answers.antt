@@ -1,10 +1,7 @@
 -- `bends::fill_bent_axis` meets its contract: found, kept, summed. Assumes nothing.
-use mathlib.Core.Path.{◌∙◌}
-use Prim.Native.Nat.{◌+◌, ◌*◌}
 use native.Mathlib.Nat.{mul_assoc, mul-le-mul}
 use native.Mathlib.Omega.{arith}
 use Rattle.bends.proofs.Rooms.{room_right, factors_right, slopes_right, bends_right}
-use borrow.Author.Rules.{rules}
 use Rattle.bends.proofs.fill_bent_axis.Goals as goal
 
 pub overflow_mul-end : goal.overflow_mul-end

@@ -1,10 +1,8 @@
 -- `bends::finish_bends` meets its contract. The loop keeps `Filling`: k sums are finished. Assumes nothing.
-use borrow.Author.Rules.{rules}
-use mathlib.Core.Path.{refl}
 use Prim.Native.Nat.{◌+◌, ◌-◌}
 use lib.Ieee.{nan}
 use lib.ListN.{get_or}
-use Rattle.common.proofs.Fill.{Filling, filling_none, changing_more, filling_done}
+use Rattle.common.proofs.Fill.{Filling}
 use Rattle.bends.specs.Bends.{bend_of}
 use Rattle.bends.proofs.finish_bends.Given as goal
 

@@ -5,7 +5,6 @@ use native.Mathlib.Omega.{arith}
 use Rattle.common.proofs.Fill.{part_length}
 use Rattle.bends.specs.Working.{between}
 use Rattle.bends.proofs.Rooms.{three_kept}
-use borrow.Author.Rules.{rules}
 use Rattle.bends.proofs.keep_three.Goals as goal
 
 pub returns : goal.returns

@@ -1,5 +1,4 @@
 -- `bends::sum_axis` meets its contract: each third of the room is summed into its own buffer. Assumes nothing.
-use borrow.Author.Rules.{rules}
 use Rattle.bends.proofs.sum_axis.Goals as goal
 
 pub returns : goal.returns

@@ -1,7 +1,6 @@
 -- `transfer::half_of` meets its contract: the weight is a power of two. Assumes nothing.
 use native.Mathlib.Nat.{one-le-pow}
 use native.Mathlib.Omega.{arith}
-use borrow.Author.Rules.{rules}
 use Rattle.transfer.proofs.half_of.Goals as goal
 
 pub nonzero_div-result : goal.nonzero_div-result

@@ -1,8 +1,6 @@
 -- `transfer::transfer_axes` meets its contract: one, two or three passes, by the dimension. Assumes nothing.
 use mathlib.Core.Path.{◌∙◌}
-use Prim.Native.Nat.{◌-◌}
 use native.Mathlib.Omega.{arith}
-use borrow.Author.Rules.{rules}
 use Rattle.transfer.specs.Tensor.{along}
 use Rattle.transfer.proofs.Axes.{axes_one, axes_two, axes_three, pass_ready}
 use Rattle.transfer.proofs.transfer_axes.Goals as goal

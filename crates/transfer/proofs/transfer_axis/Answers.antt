@@ -5,7 +5,6 @@ use native.Mathlib.Nat.{mod-lt}
 use native.Mathlib.Omega.{arith}
 use lib.ListN.{length}
 use Rattle.transfer.proofs.Axes.{block_fits, along_block}
-use borrow.Author.Rules.{rules}
 use Rattle.transfer.proofs.transfer_axis.Goals.{After-half_of}
 use Rattle.transfer.proofs.transfer_axis.Goals as goal
 

@@ -3,7 +3,6 @@ use mathlib.Core.Path.{sym, ◌∙◌}
 use Prim.Native.Nat.{◌+◌}
 use native.Mathlib.Nat.{mul-le-mul}
 use native.Mathlib.Omega.{arith}
-use borrow.Author.Rules.{rules}
 use Rattle.common.proofs.Limits.{shape_taken}
 use Rattle.transfer.proofs.Calls.{transfer_shape, transfer_child, transfer_input, transfer_operators, transfer_first}
 use Rattle.transfer.proofs.Calls.{transfer_second, transfer_none}

@@ -1,18 +1,18 @@
 -- One record: its right bytes are eight, are right themselves, and depend on its first eight bytes alone. Assumes nothing.
 use mathlib.Core.Path.{◌≡◌, refl, ◌∙◌}
-use mathlib.Core.Logic.{◌⊎◌, inl, inr}
+use mathlib.Core.Logic.{inl, inr}
 use mathlib.Core.Bool.{Bool}
 use mathlib.Core.List.{List, ◌++◌}
 use mathlib.Core.Option.{Option, none, some}
 use Prim.Native.Nat.{ℕ, zero, suc, ◌<◌, ◌≤◌}
 use native.Mathlib.Omega.{arith}
-use lib.ListN.{length, get_or, replicate, get_or-append}
+use lib.ListN.{length, get_or, get_or-append}
 use Rattle.common.specs.Tests.{those}
 use Rattle.vectors.specs.declared.Known.{Known}
 use Rattle.vectors.specs.LookUps.{look_up, look_up_number}
 use Rattle.records.specs.Text.{signed}
 use Rattle.mending_lines.specs.Records.{found, right_for, right, differs, changed, verdict}
-use Rattle.mending.specs.Promises.{LookedUp, IsRight}
+use Rattle.mending.specs.Promises.{IsRight}
 use Rattle.mending_lines.proofs.Bytes.{found_number}
 
 pub for_size : (f : ℕ × Option Known) (l : List ℕ) → length (right_for f l) ≡ 8

@@ -2,7 +2,7 @@
 use mathlib.Core.Path.{◌≡◌, refl, ◌∙◌}
 use mathlib.Core.Bool.{Bool, false, cond}
 use mathlib.Core.List.{List, [], ◌∷◌, ◌++◌}
-use Prim.Native.Nat.{ℕ, zero, suc, ◌+◌, ◌-◌, ◌/◌, ◌%◌, ◌<◌, ◌≤◌}
+use Prim.Native.Nat.{ℕ, zero, suc, ◌+◌, ◌/◌, ◌%◌, ◌<◌, ◌≤◌}
 use native.Mathlib.Nat.{mod-lt}
 use native.Mathlib.Omega.{arith}
 use lib.Dec.{eqb, ltb}
@@ -11,7 +11,7 @@ use borrow.Author.Tests.{ne_eqb, ltb-true}
 use Rattle.common.proofs.Cases.{by_bool}
 use Rattle.common.proofs.Determined.{coincide}
 use Rattle.text.specs.Text.{decimal_in, decimal, spaced, counted}
-use Rattle.records.specs.Text.{short, short_word}
+use Rattle.records.specs.Text.{short_word}
 use Rattle.mending_counts.specs.Occurrences.{occurs}
 use Rattle.mending_counts.proofs.Occurring.{occurs_append}
 use Rattle.mending.specs.declared.Totals.{Totals}

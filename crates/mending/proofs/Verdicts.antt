@@ -1,7 +1,7 @@
 -- What a verdict says: a kept record is unchanged, a mended one is changed at exactly the bytes that are named, and a blanked one has
 -- eight zeros and the number of its refusal. Assumes nothing.
 use mathlib.Core.Path.{◌≡◌, refl, sym, ap}
-use mathlib.Core.Bool.{Bool, true, false, not}
+use mathlib.Core.Bool.{Bool, true}
 use mathlib.Core.List.{List, [], ◌∷◌}
 use mathlib.Core.Option.{Option, none, some}
 use Prim.Native.Nat.{ℕ, zero, suc, ◌<◌, ◌≤◌}
@@ -10,7 +10,7 @@ use lib.Dec.{eqb}
 use lib.ListN.{length, get_or, take, replicate}
 use lib.Seq.{get_or-take, ext_get_or, length-take-le}
 use borrow.Author.Tests.{eqb-false, ne_eqb}
-use Rattle.common.specs.Tests.{those, count}
+use Rattle.common.specs.Tests.{count}
 use Rattle.common.proofs.Cases.{by_lt, by_eq, of_not}
 use Rattle.common.proofs.Tests.{length_those, those_count, those_listed, count_less, Listed}
 use Rattle.vectors.specs.declared.Known.{Known}

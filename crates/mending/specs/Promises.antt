@@ -1,5 +1,5 @@
 -- What the theorems on mending speak of: when a record is right, which places a list names, and how many records have a verdict.
-use Rattle.std.specs.Prelude.{◌≡◌, ◌⊎◌, List, [], ◌∷◌, ℕ, suc, ◌<◌, length, get_or, replicate}
+use Rattle.std.specs.Prelude.{◌≡◌, ◌⊎◌, List, ℕ, suc, ◌<◌, length, get_or, replicate}
 use Rattle.std.proofs.Math.Option.{some}
 use Rattle.vectors.specs.declared.Known.{Known}
 use Rattle.mending_lines.specs.Records.{found}

@@ -1,4 +1,6 @@
 // What looking up a vector, following a node and a reference vector answer, told in lent slices.
+#![tactic(auto)]
+
 ghost use Rattle.std.specs.Prelude.{◌≡◌};
 ghost use Rattle.turn_told.specs.Told.{look_up_told, follow_told, reference_told};
 

@@ -5,7 +5,6 @@ use borrow.Author.Tests.{le-leb}
 use lib.ListN.{length}
 use Rattle.mending.specs.Mending.{text}
 use Rattle.mending.proofs.Lines.{text_most}
-use borrow.Author.Rules.{rules}
 use Rattle.mending.proofs.fits.Goals as goal
 
 pub returns-then-input-room : goal.returns-then-input-room

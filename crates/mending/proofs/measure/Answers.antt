@@ -2,18 +2,17 @@
 -- measure is what is left of the input. Assumes nothing.
 use mathlib.Core.Path.{◌≡◌, refl, sym, ap, ◌∙◌}
 use mathlib.Core.List.{List, ◌++◌}
-use Prim.Native.Nat.{ℕ, ◌+◌, ◌-◌, ◌≤◌}
+use Prim.Native.Nat.{ℕ, ◌+◌, ◌-◌}
 use native.Mathlib.Omega.{arith}
 use borrow.Author.Tests.{le-leb}
 use lib.ListN.{length, drop}
 use Rattle.text.proofs.Putting.{put_length, put_size}
-use Rattle.records.proofs.Answers.{Measured, measured_all, measured_more, measured_less}
+use Rattle.records.proofs.Answers.{measured_all, measured_more, measured_less}
 use Rattle.records.proofs.Lines.{short_size}
 use Rattle.mending_lines.specs.Records.{verdict, line}
 use Rattle.mending.specs.Mending.{text}
 use Rattle.mending_lines.proofs.Lines.{line_most}
 use Rattle.mending.proofs.Lines.{text_record, text_short, text_end}
-use borrow.Author.Rules.{rules}
 use Rattle.mending.proofs.measure.Goals.{After-put_verdict-size}
 use Rattle.mending.proofs.measure.Goals as goal
 

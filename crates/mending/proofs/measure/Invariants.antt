@@ -1,19 +1,10 @@
 -- `mending::measure` meets its contract. The loop's invariant: what is left of the room is what is left after the lines before `at`. The
 -- measure is what is left of the input. Assumes nothing.
-use mathlib.Core.Path.{◌≡◌, refl, sym, ap, ◌∙◌}
-use mathlib.Core.List.{List, ◌++◌}
-use Prim.Native.Nat.{ℕ, ◌+◌, ◌-◌, ◌≤◌}
-use native.Mathlib.Omega.{arith}
-use borrow.Author.Tests.{le-leb}
+use mathlib.Core.Path.{◌≡◌}
+use Prim.Native.Nat.{◌-◌, ◌≤◌}
 use lib.ListN.{length, drop}
-use Rattle.text.proofs.Putting.{put_length, put_size}
-use Rattle.records.proofs.Answers.{Measured, measured_all, measured_more, measured_less}
-use Rattle.records.proofs.Lines.{short_size}
-use Rattle.mending_lines.specs.Records.{verdict, line}
+use Rattle.records.proofs.Answers.{Measured}
 use Rattle.mending.specs.Mending.{text}
-use Rattle.mending_lines.proofs.Lines.{line_most}
-use Rattle.mending.proofs.Lines.{text_record, text_short, text_end}
-use borrow.Author.Rules.{rules}
 use Rattle.mending.proofs.measure.Given as goal
 
 abbrev pub invariant-loop-at : goal.invariant-loop-at

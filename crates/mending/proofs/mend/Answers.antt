@@ -1,11 +1,8 @@
 -- `mending::mend` meets its contract: an output of another size and a text that does not fit are refused, and otherwise the records are
 -- mended. Assumes nothing.
 use mathlib.Core.Path.{sym, ◌∙◌}
-use mathlib.Core.Bool.{true, false}
 use native.Mathlib.Omega.{arith}
-use Rattle.common.proofs.Cases.{of_not}
 use Rattle.mending.proofs.Calls.{output_refused, text_refused, call_written}
-use borrow.Author.Rules.{rules}
 use Rattle.mending.proofs.mend.Goals as goal
 
 pub returns-then-output-input : goal.returns-then-output-input

@@ -1,19 +1,18 @@
 -- `mending::mend_records` meets its contract. The loop's invariant: `at` is a whole number of records within the input, and both the output
 -- and the text have what belongs to the records before it. The measure is what is left of the input. Assumes nothing.
-use mathlib.Core.Path.{◌≡◌, refl, sym, ◌∙◌}
+use mathlib.Core.Path.{refl, sym, ◌∙◌}
 use mathlib.Core.List.{append-nil}
-use Prim.Native.Nat.{◌+◌, ◌-◌, ◌*◌, ◌/◌, ◌≤◌}
+use Prim.Native.Nat.{◌+◌, ◌-◌, ◌≤◌}
 use native.Mathlib.Omega.{arith}
 use lib.ListN.{length, drop}
 use Rattle.text.proofs.Putting.{put_length}
 use Rattle.records.specs.Text.{short}
-use Rattle.records.proofs.Answers.{Reached, begun, onward, reached_all}
+use Rattle.records.proofs.Answers.{begun, onward, reached_all}
 use Rattle.mending_lines.specs.Records.{right, verdict, line}
 use Rattle.mending.specs.Mending.{mended_file}
 use Rattle.mending.specs.Mending.{text as Mending-text}
 use Rattle.mending.proofs.Calls.{file_done}
 use Rattle.mending.proofs.Lines.{file_record, text_record, file_end, text_short, text_end}
-use borrow.Author.Rules.{rules}
 use Rattle.mending.proofs.mend_records.Goals as goal
 
 pub loop-at-init : goal.loop-at-init

@@ -1,7 +1,6 @@
 -- `mending::tally` meets its contract: three letters are counted. Assumes nothing.
 use Rattle.mending.proofs.Tallies.{told}
 use Rattle.mending.specs.Tallies.{tally_of}
-use borrow.Author.Rules.{rules}
 use Rattle.mending.proofs.tally.Goals as goal
 
 pub returns : goal.returns

@@ -1,6 +1,5 @@
 -- `nodes::generate_chebyshev_nodes` meets its contract: refused, or filled. Assumes nothing.
 use mathlib.Core.Path.{sym, ◌∙◌}
-use borrow.Author.Rules.{rules}
 use lib.ListN.{length}
 use Rattle.nodes.proofs.Calls.{nodes_accepted, nodes_refused, nodes_done}
 use Rattle.nodes.proofs.generate_chebyshev_nodes.Goals as goal

@@ -1,6 +1,5 @@
 -- `nodes::nodes_number` meets its contract: each return by the tests that led there. Assumes nothing.
 use mathlib.Core.Path.{sym, ◌∙◌}
-use borrow.Author.Rules.{rules}
 use Rattle.nodes.proofs.Calls.{nodes_order, nodes_length, nodes_none}
 use Rattle.nodes.proofs.nodes_number.Goals as goal
 

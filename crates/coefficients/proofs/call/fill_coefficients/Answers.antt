@@ -1,5 +1,4 @@
 -- `coefficients::call::fill_coefficients` meets its contract: one step after the other. Assumes nothing.
-use borrow.Author.Rules.{rules}
 use mathlib.Core.Path.{◌∙◌}
 use Prim.Native.Nat.{◌*◌, ◌^◌}
 use native.Mathlib.Omega.{arith}

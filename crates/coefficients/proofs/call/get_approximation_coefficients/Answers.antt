@@ -1,6 +1,5 @@
 -- `coefficients::call::get_approximation_coefficients` meets its contract: refused, or filled. Assumes nothing.
-use borrow.Author.Rules.{rules}
-use mathlib.Core.Path.{◌≡◌, sym, ap, ◌∙◌}
+use mathlib.Core.Path.{sym, ap, ◌∙◌}
 use mathlib.Core.Bool.{Bool}
 use lib.Ieee.{Float}
 use Rattle.common.specs.Matrices.{matrix}

@@ -1,7 +1,7 @@
 -- `coefficients::columns::fill_axes_columns` meets its contract. The loop keeps `Stepping`: the columns of the axes before `axis` are
 -- filled. Assumes nothing.
-use mathlib.Core.Path.{◌≡◌, refl, ap, ◌∙◌}
-use Prim.Native.Nat.{ℕ, ◌+◌, ◌-◌, ◌*◌, ◌^◌, ◌≤◌}
+use mathlib.Core.Path.{ap, ◌∙◌}
+use Prim.Native.Nat.{ℕ, ◌+◌, ◌*◌, ◌^◌, ◌≤◌}
 use native.Mathlib.Nat.{mul_assoc, mul-le-mul}
 use native.Mathlib.Omega.{arith}
 use lib.ListN.{length}
@@ -9,10 +9,9 @@ use Rattle.common.specs.Matrices.{cell}
 use Rattle.common.proofs.Fill.{part_length}
 use Rattle.common.proofs.Limits.{power_most}
 use Rattle.common.proofs.Matrices.{columns_filled}
-use Rattle.common.proofs.Steps.{Stepping, stepping_none, stepping_fits, stepping_done}
+use Rattle.common.proofs.Steps.{stepping_none, stepping_fits, stepping_done}
 use Rattle.coefficients.specs.Working.{gradient_of}
 use Rattle.coefficients.proofs.Stretches.{gradient_more}
-use borrow.Author.Rules.{rules}
 use Rattle.coefficients.proofs.columns.fill_axes_columns.Goals.{In-loop-axis}
 use Rattle.coefficients.proofs.columns.fill_axes_columns.Goals as goal
 

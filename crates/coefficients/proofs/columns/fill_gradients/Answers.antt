@@ -1,6 +1,5 @@
 -- `coefficients::columns::fill_gradients` meets its contract: filled, or left as they were. Assumes nothing.
 use Rattle.axes.proofs.Stretches.{wanted_yes, wanted_no}
-use borrow.Author.Rules.{rules}
 use Rattle.coefficients.proofs.columns.fill_gradients.Goals as goal
 
 pub fill_axes_columns-requires : goal.fill_axes_columns-requires

@@ -1,5 +1,4 @@
 -- `coefficients::limits::coefficients_number` meets its contract: the lowest number of the lengths that were lent. Assumes nothing.
-use borrow.Author.Rules.{rules}
 use Rattle.coefficients.specs.Coefficients.{coefficients_call}
 use Rattle.coefficients.proofs.limits.coefficients_number.Goals as goal
 

@@ -1,10 +1,8 @@
 -- `coefficients::limits::lowest_number` meets its contract: each return by the tests that led there. Assumes nothing.
 -- WHAT HOLDS past each test
-use borrow.Author.Rules.{rules}
 use mathlib.Core.Path.{◌≡◌, sym, ap, ◌∙◌}
-use mathlib.Core.Bool.{Bool, true, false}
+use mathlib.Core.Bool.{Bool, true}
 use Rattle.common.specs.Refusals.{Shape}
-use Rattle.common.proofs.Cases.{of_not}
 use Rattle.common.proofs.Limits.{shape_taken}
 use Rattle.coefficients.specs.Coefficients.{with_gradients, takes_side, lengths_fit}
 use Rattle.coefficients.proofs.Calls.{number_shape, number_count, number_length, number_side, number_finite, number_none}

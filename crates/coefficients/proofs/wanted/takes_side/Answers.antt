@@ -1,5 +1,4 @@
 -- `coefficients::wanted::takes_side` meets its contract, arm by arm. Assumes nothing.
-use borrow.Author.Rules.{rules}
 use Rattle.coefficients.proofs.wanted.takes_side.Goals as goal
 
 pub returns-in-Gradients : goal.returns-in-Gradients

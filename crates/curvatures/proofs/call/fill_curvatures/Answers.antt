@@ -1,14 +1,11 @@
 -- `curvatures::call::fill_curvatures` meets its contract: S, S' and S'' of all axes, and then their products. Assumes nothing.
-use mathlib.Core.Path.{◌≡◌, ap, ◌∙◌}
-use mathlib.Core.List.{List}
-use Prim.Native.Nat.{ℕ, ◌*◌}
-use lib.Ieee.{Float}
+use mathlib.Core.Path.{ap, ◌∙◌}
+use Prim.Native.Nat.{◌*◌}
 use lib.ListN.{length}
 use Rattle.common.specs.Matrices.{matrix}
 use Rattle.common.proofs.Matrices.{column_length}
 use Rattle.curvatures.specs.declared.Lengths.{Lengths}
 use Rattle.curvatures.proofs.Products.{memory_right}
-use borrow.Author.Rules.{rules}
 use Rattle.curvatures.proofs.call.fill_curvatures.Goals as goal
 
 pub fill_bent_axes-requires : goal.fill_bent_axes-requires

@@ -2,7 +2,6 @@
 use mathlib.Core.Path.{sym, ◌∙◌}
 use Rattle.curvatures.specs.Curvatures.{Memory}
 use Rattle.curvatures.proofs.Calls.{call_admitted, curvature_refused, curvature_done}
-use borrow.Author.Rules.{rules}
 use Rattle.curvatures.proofs.call.get_curvature_coefficients.Goals.{Start}
 use Rattle.curvatures.proofs.call.get_curvature_coefficients.Goals as goal
 

@@ -1,9 +1,8 @@
 -- `curvatures::columns::fill_pair` meets its contract: by whether the pair has one axis or two. Assumes nothing.
 use mathlib.Core.Path.{◌∙◌}
-use Prim.Native.Nat.{◌^◌, ◌<◌}
+use Prim.Native.Nat.{◌^◌}
 use lib.Arith.{lt_of_le-ne}
 use Rattle.curvatures.proofs.Products.{pair_one, pair_sources, pair_two}
-use borrow.Author.Rules.{rules}
 use Rattle.curvatures.proofs.columns.fill_pair.Goals as goal
 
 pub fill_products-requires : goal.fill_products-requires

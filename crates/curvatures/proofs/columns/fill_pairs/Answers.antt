@@ -1,19 +1,18 @@
 -- `curvatures::columns::fill_pairs` meets its contract. The loop keeps `Stepping`: the columns of the pairs before q are filled. Assumes
 -- nothing.
 use mathlib.Core.Path.{◌≡◌}
-use Prim.Native.Nat.{ℕ, ◌+◌, ◌-◌, ◌*◌, ◌^◌, ◌<◌, ◌≤◌}
+use Prim.Native.Nat.{ℕ, ◌+◌, ◌*◌, ◌<◌, ◌≤◌}
 use native.Mathlib.Nat.{mul-le-mul}
 use native.Mathlib.Omega.{arith}
 use lib.ListN.{length}
 use Rattle.common.specs.Matrices.{cell}
 use Rattle.common.proofs.Limits.{power_most}
-use Rattle.common.proofs.Steps.{Stepping, stepping_none, stepping_fits}
+use Rattle.common.proofs.Steps.{stepping_none, stepping_fits}
 use Rattle.curvatures.specs.Curvatures.{pair_count}
 use Rattle.curvatures.specs.Working.{curvature_of}
 use Rattle.curvatures.specs.declared.pairs.Pair.{Pair}
 use Rattle.curvatures.proofs.AxisPairs.{pair_rises}
 use Rattle.curvatures.proofs.Products.{pairs_fit, pair_lent, pair_more, pairs_done}
-use borrow.Author.Rules.{rules}
 use Rattle.curvatures.proofs.columns.fill_pairs.Goals.{In-loop-q}
 use Rattle.curvatures.proofs.columns.fill_pairs.Goals as goal
 

@@ -1,5 +1,4 @@
 -- `curvatures::columns::third_axis` meets its contract. Assumes nothing.
-use borrow.Author.Rules.{rules}
 use borrow.Author.Tests.{le-leb, lt-leb}
 use Rattle.curvatures.proofs.columns.third_axis.Goals as goal
 

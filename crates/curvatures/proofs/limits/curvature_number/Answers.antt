@@ -1,10 +1,8 @@
 -- `curvatures::limits::curvature_number` meets its contract: each return by the tests that led there. Assumes nothing.
 -- WHAT HOLDS past each test
-use borrow.Author.Rules.{rules}
 use mathlib.Core.Path.{◌≡◌, sym, ap, ◌∙◌}
-use mathlib.Core.Bool.{Bool, true, false}
+use mathlib.Core.Bool.{true}
 use Rattle.common.specs.Refusals.{Shape, is_cell}
-use Rattle.common.proofs.Cases.{of_not}
 use Rattle.common.proofs.Limits.{shape_taken}
 use Rattle.curvatures.specs.Curvatures.{lengths_of, alike}
 use Rattle.curvatures.specs.declared.Lengths.{Lengths}

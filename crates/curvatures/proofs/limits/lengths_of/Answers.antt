@@ -1,11 +1,9 @@
 -- `curvatures::limits::lengths_of` meets its contract: no product of counts in range is too large. Assumes nothing.
-use mathlib.Core.Path.{◌≡◌}
 use Prim.Native.Nat.{ℕ, ◌*◌, ◌≤◌}
 use native.Mathlib.Nat.{mul-le-mul}
 use native.Mathlib.Omega.{arith}
 use Rattle.common.proofs.Limits.{power_most}
 use Rattle.curvatures.proofs.AxisPairs.{count_most}
-use borrow.Author.Rules.{rules}
 use Rattle.curvatures.proofs.limits.lengths_of.Goals.{After-pair_count-pairs}
 use Rattle.curvatures.proofs.limits.lengths_of.Goals as goal
 

@@ -1,7 +1,6 @@
 -- `curvatures::pairs::pair_at` meets its contract: each return by the tests that led there. Assumes nothing.
 use Rattle.curvatures.proofs.AxisPairs.{begins_with_0, begins_with_1, begins_with_2, count_most}
 use native.Mathlib.Omega.{arith}
-use borrow.Author.Rules.{rules}
 use Rattle.curvatures.proofs.pairs.pair_at.Goals as goal
 
 pub returns-then-q-dimension : goal.returns-then-q-dimension

@@ -2,7 +2,6 @@
 use native.Mathlib.Nat.{mul-le-mul}
 use native.Mathlib.Omega.{arith}
 use Prim.Native.Nat.{◌+◌}
-use borrow.Author.Rules.{rules}
 use Rattle.curvatures.proofs.pairs.pair_count.Goals as goal
 
 pub overflow_mul-result : goal.overflow_mul-result

@@ -1,7 +1,6 @@
 -- `nodes::sets::generate_node_set` meets its contract: an unknown set is refused, and for a known one the call with no set is made, and
 -- in set 1 what it left is mirrored. Assumes nothing.
 use mathlib.Core.Path.{sym, ap, ◌∙◌}
-use borrow.Author.Rules.{rules}
 use lib.ListN.{length}
 use Rattle.common.proofs.Fill.{length_tabulate}
 use Rattle.node_rows.specs.Rows.{node}

@@ -1,11 +1,10 @@
 -- `nodes::sets::mirror_nodes` meets its contract. The loop keeps `Filling`: i nodes are mirrored. Assumes nothing.
-use borrow.Author.Rules.{rules}
-use Prim.Native.Nat.{◌-◌, ◌/◌}
+use Prim.Native.Nat.{◌/◌}
 use native.Mathlib.Nat.{zero-add}
 use native.Mathlib.Omega.{arith}
 use mathlib.Core.Path.{refl, sym}
 use lib.Ieee.{nan}
-use Rattle.common.proofs.Fill.{Filling, filling_none, filling_more}
+use Rattle.common.proofs.Fill.{filling_none, filling_more}
 use Rattle.nodes.specs.Sets.{mirrored}
 use Rattle.nodes.proofs.Mirroring.{mirror_next, mirror_even, mirror_odd}
 use Rattle.nodes.proofs.sets.mirror_nodes.Goals as goal

@@ -1,11 +1,10 @@
 -- `products::columns::fill_product` meets its contract: the product of the node's columns. Assumes nothing.
-use mathlib.Core.Path.{◌≡◌, refl, ◌∙◌}
+use mathlib.Core.Path.{refl, ◌∙◌}
 use Prim.Native.Nat.{◌+◌, ◌≤◌}
 use native.Mathlib.Omega.{arith}
 use lib.ListN.{length}
 use Rattle.common.proofs.Fill.{part_length}
 use Rattle.products.proofs.Products.{source_axes, source_room, product_lent}
-use borrow.Author.Rules.{rules}
 use Rattle.products.proofs.columns.fill_product.Goals.{After-place_of-c}
 use Rattle.products.proofs.columns.fill_product.Goals as goal
 

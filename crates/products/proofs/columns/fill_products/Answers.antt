@@ -1,17 +1,13 @@
 -- `products::columns::fill_products` meets its contract. The loop keeps `Stepping`: the columns of the nodes before `node` are
 -- filled. Assumes nothing.
 use mathlib.Core.Path.{◌≡◌, refl, sym, ap, ◌∙◌}
-use mathlib.Core.List.{List}
-use Prim.Native.Nat.{ℕ, ◌+◌, ◌-◌, ◌*◌, ◌^◌, ◌≤◌}
+use Prim.Native.Nat.{ℕ, ◌+◌, ◌*◌, ◌^◌, ◌≤◌}
 use native.Mathlib.Omega.{arith}
-use lib.Ieee.{Float}
 use lib.ListN.{length}
-use Rattle.common.specs.Matrices.{cell}
 use Rattle.common.proofs.Fill.{part_length}
 use Rattle.common.proofs.Matrices.{columns_filled}
-use Rattle.common.proofs.Steps.{Stepping, stepping_none, stepping_fits, stepping_done, column_lent}
+use Rattle.common.proofs.Steps.{stepping_none, stepping_fits, stepping_done, column_lent}
 use Rattle.products.specs.Products.{three, product_of}
-use borrow.Author.Rules.{rules}
 use Rattle.products.proofs.columns.fill_products.Goals.{In-loop-node}
 use Rattle.products.proofs.columns.fill_products.Invariants.{columns_of}
 use Rattle.products.proofs.columns.fill_products.Goals as goal

@@ -1,17 +1,11 @@
 -- `products::columns::fill_products` meets its contract. The loop keeps `Stepping`: the columns of the nodes before `node` are
 -- filled. Assumes nothing.
-use mathlib.Core.Path.{◌≡◌, refl, sym, ap, ◌∙◌}
 use mathlib.Core.List.{List}
-use Prim.Native.Nat.{ℕ, ◌+◌, ◌-◌, ◌*◌, ◌^◌, ◌≤◌}
-use native.Mathlib.Omega.{arith}
+use Prim.Native.Nat.{ℕ, ◌-◌}
 use lib.Ieee.{Float}
-use lib.ListN.{length}
 use Rattle.common.specs.Matrices.{cell}
-use Rattle.common.proofs.Fill.{part_length}
-use Rattle.common.proofs.Matrices.{columns_filled}
-use Rattle.common.proofs.Steps.{Stepping, stepping_none, stepping_fits, stepping_done, column_lent}
+use Rattle.common.proofs.Steps.{Stepping}
 use Rattle.products.specs.Products.{three, product_of}
-use borrow.Author.Rules.{rules}
 use Rattle.products.proofs.columns.fill_products.Given as goal
 
 -- the columns, by their places

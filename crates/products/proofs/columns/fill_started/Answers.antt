@@ -2,7 +2,6 @@
 use mathlib.Core.Path.{◌∙◌}
 use Prim.Native.Nat.{◌^◌}
 use Rattle.products.proofs.Products.{sources, started_columns}
-use borrow.Author.Rules.{rules}
 use Rattle.products.proofs.columns.fill_started.Goals as goal
 
 pub fill_products-requires : goal.fill_products-requires

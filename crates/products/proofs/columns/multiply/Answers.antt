@@ -3,7 +3,6 @@ use mathlib.Core.Path.{◌≡◌, ◌∙◌}
 use native.Mathlib.Omega.{arith}
 use Rattle.common.proofs.Fill.{fill_all, tabulate_cong}
 use Rattle.products.proofs.Products.{product_one, product_two, product_three}
-use borrow.Author.Rules.{rules}
 use Rattle.products.proofs.columns.multiply.Goals as goal
 
 pub returns-then-dimension-eq1 : goal.returns-then-dimension-eq1

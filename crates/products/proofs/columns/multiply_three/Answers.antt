@@ -1,13 +1,11 @@
 -- `products::columns::multiply_three` meets its contract. The loop keeps `Filling`: i rows have their products. Assumes nothing.
-use borrow.Author.Rules.{rules}
 use mathlib.Core.Path.{refl, sym, ◌∙◌}
-use Prim.Native.Nat.{◌-◌}
 use native.Mathlib.Nat.{zero-add}
 use native.Mathlib.Omega.{arith}
 use lib.Ieee.{nan}
 use lib.ListN.{get_or}
 use Rattle.common.specs.Floats.{times}
-use Rattle.common.proofs.Fill.{Filling, filling_none, filling_more, filling_done, fill_all}
+use Rattle.common.proofs.Fill.{filling_none, filling_more, filling_done, fill_all}
 use Rattle.products.proofs.columns.multiply_three.Goals as goal
 
 pub loop-i-init : goal.loop-i-init

@@ -1,6 +1,5 @@
 -- `products::columns::third_axis` meets its contract: each return by the tests that led there. Assumes nothing.
 use borrow.Author.Tests.{le-leb, lt-leb, eq-eqb, ne_eqb}
-use borrow.Author.Rules.{rules}
 use Rattle.products.proofs.columns.third_axis.Goals as goal
 
 pub returns-then-dimension-le2 : goal.returns-then-dimension-le2

@@ -1,13 +1,7 @@
 -- `fields::add_two` meets its contract. The loop keeps `Filling`: i points have both terms. Assumes nothing.
-use borrow.Author.Rules.{rules}
-use mathlib.Core.Path.{refl, sym, ap}
-use Prim.Native.Nat.{ℕ, ◌-◌}
-use native.Mathlib.Nat.{zero-add}
-use native.Mathlib.Omega.{arith}
-use lib.Ieee.{nan}
-use lib.ListN.{get_or}
-use Rattle.common.proofs.Fill.{Filling, filling_none, changing_more, filling_done}
-use Rattle.fields.specs.Working.{with_two, two_more}
+use Prim.Native.Nat.{◌-◌}
+use Rattle.common.proofs.Fill.{Filling}
+use Rattle.fields.specs.Working.{two_more}
 use Rattle.fields.proofs.add_two.Given as goal
 
 abbrev pub invariant-loop-i : goal.invariant-loop-i

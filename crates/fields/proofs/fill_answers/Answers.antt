@@ -1,11 +1,8 @@
 -- `fields::fill_answers` meets its contract. The loop keeps: the air has been told at the first points. Assumes nothing.
-use borrow.Author.Rules.{rules}
-use mathlib.Core.Path.{◌≡◌, sym, ◌∙◌}
-use Prim.Native.Nat.{◌+◌, ◌-◌, ◌<◌, ◌≤◌}
+use mathlib.Core.Path.{sym, ◌∙◌}
+use Prim.Native.Nat.{◌+◌, ◌<◌, ◌≤◌}
 use native.Mathlib.Omega.{arith}
-use lib.ListN.{length}
-use Rattle.fields.specs.Fields.{air_at}
-use Rattle.fields.proofs.Points.{Told, told_none, told_more, told_done, run_fits}
+use Rattle.fields.proofs.Points.{told_none, told_more, told_done, run_fits}
 use Rattle.fields.proofs.fill_answers.Goals.{After-least-count}
 use Rattle.fields.proofs.fill_answers.Goals as goal
 

@@ -1,11 +1,7 @@
 -- `fields::fill_answers` meets its contract. The loop keeps: the air has been told at the first points. Assumes nothing.
-use borrow.Author.Rules.{rules}
-use mathlib.Core.Path.{◌≡◌, sym, ◌∙◌}
-use Prim.Native.Nat.{◌+◌, ◌-◌, ◌<◌, ◌≤◌}
-use native.Mathlib.Omega.{arith}
-use lib.ListN.{length}
+use Prim.Native.Nat.{◌-◌}
 use Rattle.fields.specs.Fields.{air_at}
-use Rattle.fields.proofs.Points.{Told, told_none, told_more, told_done, run_fits}
+use Rattle.fields.proofs.Points.{Told}
 use Rattle.fields.proofs.fill_answers.Given as goal
 
 abbrev pub invariant-loop-point : goal.invariant-loop-point

@@ -1,5 +1,4 @@
 -- `fields::fill_run` meets its contract: the air is told from the gases that were found at the run's points. Assumes nothing.
-use borrow.Author.Rules.{rules}
 use mathlib.Core.Path.{◌∙◌}
 use Rattle.fields.proofs.Points.{told_same}
 use Rattle.fields.proofs.fill_run.Goals as goal

@@ -1,12 +1,7 @@
 -- `fields::gas_at` meets its contract. The loop keeps: at each point of the run the sum is that of the first nodes. Assumes
 -- nothing.
-use borrow.Author.Rules.{rules}
-use mathlib.Core.Path.{◌≡◌, ◌∙◌}
-use Prim.Native.Nat.{◌+◌, ◌-◌, ◌<◌, ◌≤◌}
-use native.Mathlib.Nat.{mul-le-mul}
-use native.Mathlib.Omega.{arith}
-use lib.ListN.{length}
-use Rattle.fields.proofs.Points.{Summing, summing_none, next_place, inside, summing_more, summing_two, summing_done}
+use Prim.Native.Nat.{◌-◌}
+use Rattle.fields.proofs.Points.{Summing}
 use Rattle.fields.proofs.gas_at.Given as goal
 
 abbrev pub invariant-loop-node : goal.invariant-loop-node

@@ -1,5 +1,4 @@
 -- `fields::put_air` meets its contract, arm by arm. Assumes nothing.
-use borrow.Author.Rules.{rules}
 use Rattle.fields.proofs.Points.{put_ratio, put_unusable, put_fresh}
 use Rattle.fields.proofs.put_air.Goals as goal
 

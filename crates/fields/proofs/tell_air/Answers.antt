@@ -1,11 +1,9 @@
 -- `fields::tell_air` meets its contract. The loop keeps: the air has been told at the first points of the run. Assumes nothing.
-use borrow.Author.Rules.{rules}
 use mathlib.Core.Path.{refl}
-use Prim.Native.Nat.{◌+◌, ◌-◌, ◌<◌, ◌≤◌}
+use Prim.Native.Nat.{◌+◌, ◌<◌}
 use native.Mathlib.Omega.{arith}
 use lib.ListN.{length}
-use Rattle.fields.specs.Working.{air_here}
-use Rattle.fields.proofs.Points.{Telling, telling_none, telling_more, telling_done}
+use Rattle.fields.proofs.Points.{telling_none, telling_more, telling_done}
 use Rattle.fields.proofs.tell_air.Goals.{In-loop-i}
 use Rattle.fields.proofs.tell_air.Goals as goal
 

@@ -1,11 +1,7 @@
 -- `fields::tell_air` meets its contract. The loop keeps: the air has been told at the first points of the run. Assumes nothing.
-use borrow.Author.Rules.{rules}
-use mathlib.Core.Path.{refl}
-use Prim.Native.Nat.{◌+◌, ◌-◌, ◌<◌, ◌≤◌}
-use native.Mathlib.Omega.{arith}
-use lib.ListN.{length}
+use Prim.Native.Nat.{◌-◌}
 use Rattle.fields.specs.Working.{air_here}
-use Rattle.fields.proofs.Points.{Telling, telling_none, telling_more, telling_done}
+use Rattle.fields.proofs.Points.{Telling}
 use Rattle.fields.proofs.tell_air.Given as goal
 
 abbrev pub invariant-loop-i : goal.invariant-loop-i

@@ -1,5 +1,4 @@
 -- `ratios::graham_ratios` meets its contract: refused, or told from the coefficients. Assumes nothing.
-use borrow.Author.Rules.{rules}
 use mathlib.Core.Path.{sym, ◌∙◌}
 use Rattle.ratios.proofs.Calls.{none, shape, evaluated, ratios_refused, ratios_done}
 use Rattle.ratios.proofs.graham_ratios.Goals as goal

@@ -1,5 +1,4 @@
 -- `ratios::limits::below_number` meets its contract: the lower of two numbers, both of the points as they came. Assumes nothing.
-use borrow.Author.Rules.{rules}
 use Rattle.ratios.proofs.Calls.{below_lowest}
 use Rattle.ratios.proofs.limits.below_number.Goals as goal
 

@@ -1,5 +1,4 @@
 -- `ratios::limits::floor_number` meets its contract: each return by the tests that led there. Assumes nothing.
-use borrow.Author.Rules.{rules}
 use mathlib.Core.Path.{sym, ◌∙◌}
 use Rattle.ratios.proofs.Calls.{floor_taken, floor_endless, floor_low}
 use Rattle.ratios.proofs.limits.floor_number.Goals as goal

@@ -1,5 +1,4 @@
 -- `ratios::limits::lengths_number` meets its contract: each return by the tests that led there. Assumes nothing.
-use borrow.Author.Rules.{rules}
 use mathlib.Core.Path.{◌≡◌, sym, ◌∙◌}
 use Prim.Native.Nat.{◌^◌}
 use Rattle.ratios.specs.Ratios.{lengths_fit}

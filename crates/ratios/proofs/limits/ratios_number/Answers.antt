@@ -1,5 +1,4 @@
 -- `ratios::limits::ratios_number` meets its contract: a refused shape, or the lower of two numbers, or the last. Assumes nothing.
-use borrow.Author.Rules.{rules}
 use mathlib.Core.Path.{sym, ◌∙◌}
 use Rattle.common.proofs.Limits.{shape_taken}
 use Rattle.ratios.proofs.Calls.{shape_first, lowest}

@@ -1,4 +1,6 @@
 // What cross approximation answers, told in two lent slices.
+#![tactic(auto)]
+
 ghost use Rattle.std.specs.Prelude.{◌≡◌, length};
 ghost use Rattle.aca.specs.Answers.{told};
 ghost use Rattle.aca_steps.specs.Memories.{behind};

@@ -3,7 +3,7 @@
  * children, turning a block, points, square roots and distances, coefficients of values, gradients and curvature, ratio maps, blocks
  * as Matrix Market texts, cross approximation.
  *
- * `rt staticlib bbfmm` proves the calls and writes target/staticlib/libbbfmm.a, for x86-64. The archive takes memcpy and memset
+ * `tools/library` proves the calls and writes target/staticlib/libbbfmm.a, for x86-64. The archive takes memcpy and memset
  * from the C library and nothing else. It allocates nothing and keeps nothing between calls. No call takes more than 2 KiB of stack.
  *
  * NUMBERS. Every call answers BBFMM_DONE or the number of a refusal; bbfmm_square_root alone refuses nothing and answers a float.

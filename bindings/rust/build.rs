@@ -45,7 +45,7 @@ fn main() {
     println!("cargo::rerun-if-changed={}", archive.display());
     if !archive.is_file() {
         refuse(&format!(
-            "there is no {}. Write it by `rt staticlib bbfmm` in the project's folder, or let \
+            "there is no {}. Write it by `tools/library` in the project's folder, or let \
              BBFMM_LIB name the folder that has libbbfmm.a",
             archive.display()
         ));

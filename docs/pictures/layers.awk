@@ -1,7 +1,8 @@
 # Draws the crates as layers, from crates.txt: each stands above all that it uses, and a line leads to each crate that it uses at once,
 # dashed where it passes a layer. A crate that uses more than two fifths of the others is a bar at the top, and one that more than half
 # use a bar at the bottom, without lines.
-/^[a-z_]+:/ {
+/^[a-z_]+( staticlib)?:/ {
+    sub(/ staticlib:/, ":")
     sub(/:/, "", $1)
     name[++crates] = $1
     inner[$1] = /# inner/

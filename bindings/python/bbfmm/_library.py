@@ -131,7 +131,7 @@ def _load():
     path = pathlib.Path(folder) / "libbbfmm.so"
     if not path.is_file():
         raise ImportError(
-            f"there is no {path}. Write it by `rt staticlib bbfmm` and then `bindings/python/link`, in the project's folder, "
+            f"there is no {path}. Write it by `tools/library` and then `bindings/python/link`, in the project's folder, "
             "or let BBFMM_LIB name the folder that has libbbfmm.so"
         )
     return ctypes.CDLL(str(path))

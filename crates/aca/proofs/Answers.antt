@@ -29,8 +29,8 @@ record Fitting (restart : Bool) (m n : ℕ) (a : List Float) (t : Memory) : Type
   samples_long : length a ≡ n * m
   us_long : length t.us ≡ min m n * m
   vs_long : length t.vs ≡ min m n * n
-  rows_long : length t.«row_list» ≡ listed restart m n
-  columns_long : length t.«column-list» ≡ min m n
+  rows_long : length t.row_list ≡ listed restart m n
+  columns_long : length t.column_list ≡ min m n
   row_long : length t.row ≡ n
   column_long : length t.column ≡ m
 
@@ -42,8 +42,8 @@ fitting restart m n a t z =
     let f1 = equal_and (length a) (n * m) _ (passed _ 6 0 few.1).0 in
     let f2 = equal_and (length t.us) (min m n * m) _ f1.1 in
     let f3 = equal_and (length t.vs) (min m n * n) _ f2.1 in
-    let f4 = equal_and (length t.«row_list») (listed restart m n) _ f3.1 in
-    let f5 = equal_and (length t.«column-list») (min m n) _ f4.1 in
+    let f4 = equal_and (length t.row_list) (listed restart m n) _ f3.1 in
+    let f5 = equal_and (length t.column_list) (min m n) _ f4.1 in
     let f6 = equal_and (length t.row) n _ f5.1 in
     record {
       tall = leb-true m most_entries c.0;

@@ -33,8 +33,8 @@ laid_laid f f' t hu hv hr hc =
     rw (
       upon_upon f.us f'.us t.us hu,
       upon_upon f.vs f'.vs t.vs hv,
-      upon_upon f.rows f'.rows t.«row_list» hr,
-      upon_upon f.columns f'.columns t.«column-list» hc,
+      upon_upon f.rows f'.rows t.row_list hr,
+      upon_upon f.columns f'.columns t.column_list hc,
     )
 
 module _ (b : Block) (r k : ℕ) (f : Found) (t : Memory) (c : Counts b r k f) where
@@ -46,8 +46,8 @@ module _ (b : Block) (r k : ℕ) (f : Found) (t : Memory) (c : Counts b r k f) w
         hn,
         take_upon (k * b.rows) f.us t.us c.us_long,
         take_upon (k * b.columns) f.vs t.vs c.vs_long,
-        take_upon r f.rows t.«row_list» c.rows_long,
-        take_upon k f.columns t.«column-list» c.columns_long,
+        take_upon r f.rows t.row_list c.rows_long,
+        take_upon k f.columns t.column_list c.columns_long,
       )
 
   -- what is found over what was found before it
@@ -72,8 +72,8 @@ module _ (f : Found) (t t' : Memory) (e : t' ≡ laid f t) where
 pub record Alike (t t' : Memory) : Type 0 where
   pub us_same : length t'.us ≡ length t.us
   pub vs_same : length t'.vs ≡ length t.vs
-  pub rows_same : length t'.«row_list» ≡ length t.«row_list»
-  pub columns_same : length t'.«column-list» ≡ length t.«column-list»
+  pub rows_same : length t'.row_list ≡ length t.row_list
+  pub columns_same : length t'.column_list ≡ length t.column_list
   pub row_same : length t'.row ≡ length t.row
   pub column_same : length t'.column ≡ length t.column
 
@@ -94,7 +94,7 @@ steps_left places terms read = by_eq terms 0 (λ z e. rw e (λ l. absurd (omega 
 
 module _ (samples : List Float) (tolerance : Float) (restart : Bool) (t₀ : Memory) where
   abbrev most : ℕ
-  most = steps_of (length t₀.«row_list») (length t₀.«column-list»)
+  most = steps_of (length t₀.row_list) (length t₀.column_list)
 
   abbrev block : Block
   block = block_of (length t₀.column) (length t₀.row) samples
@@ -105,20 +105,20 @@ module _ (samples : List Float) (tolerance : Float) (restart : Bool) (t₀ : Mem
   -- what the loop keeps after so many rows were read
   pub record Going (t : Memory) (rows columns : List ℕ) (s : Progress) (read low : ℕ) : Type 0 where
     pub within : read ≤ most
-    pub term : read < most → s.rank < length t₀.«column-list»
+    pub term : read < most → s.rank < length t₀.column_list
     pub row_in : read < most → s.next < length t₀.column
     pub known : read < most → RowsKnown low (length t₀.column) rows
     pub alike : Alike t₀ t
     pub rest : run (most - read) restart block tolerance s (standing read s.rank t) ≡ whole
     pub kept : t ≡ laid (standing read s.rank t) t₀
-    pub rows_marked : Marks rows (take read t.«row_list»)
-    pub columns_marked : Marks columns (take s.rank t.«column-list»)
+    pub rows_marked : Marks rows (take read t.row_list)
+    pub columns_marked : Marks columns (take s.rank t.column_list)
 
   module _ (rows columns : List ℕ) (b : Begun (length samples) t₀ rows columns) where
     -- where a step is left, the block has rows and columns
     some_rows : 0 < most → (0 < length t₀.column) × (0 < length t₀.row)
     some_rows l =
-        let terms = (steps_left (length t₀.«row_list») (length t₀.«column-list») 0 l).1 in
+        let terms = (steps_left (length t₀.row_list) (length t₀.column_list) 0 l).1 in
         (omega (arith, b.sizes.terms), omega (arith, b.sizes.terms))
 
     pub going_none : Going t₀ rows columns begin 0 0
@@ -128,7 +128,7 @@ module _ (samples : List Float) (tolerance : Float) (restart : Bool) (t₀ : Mem
         let all : most - 0 ≡ most = omega arith in
         record {
           within = omega arith;
-          term = λ h. (steps_left (length t₀.«row_list») (length t₀.«column-list») 0 h).1;
+          term = λ h. (steps_left (length t₀.row_list) (length t₀.column_list) 0 h).1;
           row_in = λ h. (some_rows h).0;
           known = λ h. record {
             some = (some_rows h).0;
@@ -144,11 +144,11 @@ module _ (samples : List Float) (tolerance : Float) (restart : Bool) (t₀ : Mem
         }
 
     module _ (t : Memory) (rows' columns' : List ℕ) (s : Progress) (read low : ℕ) (g : Going t rows' columns' s read low) where
-      most_places : most ≤ length t₀.«row_list»
-      most_places = by_eq (length t₀.«column-list») 0 (λ z e. rw e (omega arith)) (λ z e. rw e (omega arith))
+      most_places : most ≤ length t₀.row_list
+      most_places = by_eq (length t₀.column_list) 0 (λ z e. rw e (omega arith)) (λ z e. rw e (omega arith))
 
-      rows_long : length (take read t.«row_list») ≡ read
-      rows_long = length-take-le read t.«row_list» (omega (arith, g.within, most_places, g.alike.rows_same))
+      rows_long : length (take read t.row_list) ≡ read
+      rows_long = length-take-le read t.row_list (omega (arith, g.within, most_places, g.alike.rows_same))
 
       -- no step is left
       pub ends : most ≤ read → Ran whole t₀ (reported used_up s read) t
@@ -167,8 +167,8 @@ module _ (samples : List Float) (tolerance : Float) (restart : Bool) (t₀ : Mem
         abbrev reading : Reading
         reading = record { restart = restart; read = read; low = low }
 
-        left : (read < length t₀.«row_list») × (0 < length t₀.«column-list»)
-        left = steps_left (length t₀.«row_list») (length t₀.«column-list») read l
+        left : (read < length t₀.row_list) × (0 < length t₀.column_list)
+        left = steps_left (length t₀.row_list) (length t₀.column_list) read l
 
         pub ready : Ready (length samples) t reading s rows' columns'
         ready =
@@ -207,11 +207,11 @@ module _ (samples : List Float) (tolerance : Float) (restart : Bool) (t₀ : Mem
             let a = g.alike in
             let z = b.sizes in
             let term = g.term l in
-            let left = column_fits s.rank (length t₀.«column-list») (length t₀.column) _ term refl in
-            let right = column_fits s.rank (length t₀.«column-list») (length t₀.row) _ term refl in
+            let left = column_fits s.rank (length t₀.column_list) (length t₀.column) _ term refl in
+            let right = column_fits s.rank (length t₀.column_list) (length t₀.row) _ term refl in
             record {
               rows_long = rows_long;
-              columns_long = length-take-le s.rank t.«column-list» (omega (arith, a.columns_same));
+              columns_long = length-take-le s.rank t.column_list (omega (arith, a.columns_same));
               us_long = rw a.column_same (length-take-le _ t.us (omega (arith, a.us_same, z.u_room)));
               vs_long = rw a.row_same (length-take-le _ t.vs (omega (arith, a.vs_same, z.v_room)));
             }

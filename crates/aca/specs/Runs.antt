@@ -58,8 +58,8 @@ lengths a t =
       samples = length a;
       u = length t.us;
       v = length t.vs;
-      row_list = length t.«row-list»;
-      column_list = length t.«column-list»;
+      row_list = length t.row_list;
+      column_list = length t.column_list;
       row = length t.row;
       column = length t.column;
     }

@@ -1,4 +1,6 @@
 // Cross approximation: the run of its steps, its limits, and what it tells the caller.
+#![tactic(auto)]
+
 mod limits;
 mod run;
 

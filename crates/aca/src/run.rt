@@ -59,11 +59,11 @@ fn run(
     row: &mut [f64],
     column: &mut [f64],
 ) -> Report
-    requires { Begun (length samples.now) (behind u v row_list column_list row column) row_flags.old column_flags.old }
+    requires { Begun (length samples.now) (behind u.old v.old row_list.old column_list.old row.old column.old) row_flags.old column_flags.old }
     ensures { Ran (ran samples.now tolerance «restart»
-        (behind u.entry v.entry row_list.entry column_list.entry row.entry column.entry))
-        (behind u.entry v.entry row_list.entry column_list.entry row.entry column.entry)
-        result (behind u.exit v.exit row_list.exit column_list.exit row.exit column.exit) }
+        (behind u.old v.old row_list.old column_list.old row.old column.old))
+        (behind u.old v.old row_list.old column_list.old row.old column.old)
+        result (behind u.new v.new row_list.new column_list.new row.new column.new) }
 {
     let rows = column.len();
     let most = steps_of(row_list.len(), column_list.len());
@@ -120,9 +120,9 @@ pub fn aca_partial_pivoting(
     row: &mut [f64],
     column: &mut [f64],
 ) -> Approximation
-    ensures { call (told result) (behind u.exit v.exit row_list.exit column_list.exit row.exit column.exit)
+    ensures { call (told result) (behind u.new v.new row_list.new column_list.new row.new column.new)
         ≡ aca_call rows columns samples.now epsilon «restart»
-        (behind u.entry v.entry row_list.entry column_list.entry row.entry column.entry) }
+        (behind u.old v.old row_list.old column_list.old row.old column.old) }
 {
     let lent = Lengths {
         samples: samples.len(),

@@ -1,6 +1,6 @@
 -- The masked argmax: one entry more is larger and counts, does not count, or is not larger; where it is; and what it
 -- depends on. Assumes nothing.
-use mathlib.Core.Path.{◌≡◌, refl, ap, ◌∙◌}
+use mathlib.Core.Path.{◌≡◌, refl, ap}
 use mathlib.Core.Bool.{Bool, true, false, ◌&&◌}
 use mathlib.Core.List.{List, [], ◌∷◌}
 use Prim.Native.Nat.{ℕ, zero, suc, ◌+◌, ◌<◌, ◌≤◌}
@@ -63,6 +63,7 @@ module _ (l : List Float) (on : ℕ → Bool) (h : Best) (b : h ≡ best (length
 
 best_in : (n : ℕ) (l : List Float) (on : ℕ → Bool) → 0 < n → (best n l on).place < n
 unfolding best
+best_in zero l on h = absurd (omega arith)
 best_in (suc zero) l on h =
     by_bool (on 0 && lt (best 0 l on).worth (size (get_or l 0 nan))) (λ e. rw e (omega arith)) (λ e. rw e (omega arith))
 best_in (suc (suc n)) l on h =

@@ -11,7 +11,7 @@ use lib.Seq.{get_or-set_other}
 use borrow.Author.Tests.{eq-eqb, ne_eqb}
 use Rattle.common.specs.Refusals.{most_entries}
 use Rattle.common.proofs.Cases.{by_eq}
-use Rattle.aca_pivots.specs.Flags.{has_bit, without_bit, is_on, all_on, cleared}
+use Rattle.aca_pivots.specs.Flags.{without_bit, is_on, all_on, cleared}
 use Rattle.aca_pivots.specs.Working.{next_place}
 use Rattle.aca_pivots.proofs.Bits.{all_bits, bit_without, none_above}
 

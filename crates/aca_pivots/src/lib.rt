@@ -1,4 +1,6 @@
 // The pivot of a line: its largest entry, among those that a mask or flags let count; and the flags of what is still unused.
+#![tactic(auto)]
+
 mod flags;
 mod search;
 
@@ -6,7 +8,7 @@ pub use flags::{Flags, all_on, clear, is_on, lowest_on, pick_on, place_on};
 pub use search::pick;
 
 // The pivot of a line: its place, and the size of the entry there.
-#[derive(Drop)]
+#[derive(Clone, Copy)]
 pub struct Pivot {
     pub place: usize,
     pub size: f64,

@@ -1,4 +1,6 @@
 // The state that travels from step to step of a cross approximation, and what is decided on it.
+#![tactic(auto)]
+
 mod onward;
 
 pub use onward::{grow, is_usable, judge, note, without};
@@ -15,7 +17,7 @@ pub const ALL_TRIED: u8 = 4;
 
 // What travels from step to step: the estimate of the squared norm, the last cross term, the smallest size among the pivots that were
 // accepted, the rank, and the row to read next.
-#[derive(Drop)]
+#[derive(Clone, Copy)]
 pub struct Progress {
     pub estimate: f64,
     pub cross: f64,

@@ -51,12 +51,12 @@ module _ (samples : List Float) (tolerance : Float) (g : Reading) (s : Progress)
 
   -- there is room for one more term
   u_room : k * m + m ≤ length t.us
-  u_room = omega (arith, column_fits k (length t.«column-list») m _ ready.term refl, ready.sizes.u_room)
+  u_room = omega (arith, column_fits k (length t.column_list) m _ ready.term refl, ready.sizes.u_room)
 
   v_room : k * n + n ≤ length t.vs
-  v_room = omega (arith, column_fits k (length t.«column-list») n _ ready.term refl, ready.sizes.v_room)
+  v_room = omega (arith, column_fits k (length t.column_list) n _ ready.term refl, ready.sizes.v_room)
 
-  pub row_fits : RowFits (length samples) m s.next k read t.us t.vs t.row t.«row_list»
+  pub row_fits : RowFits (length samples) m s.next k read t.us t.vs t.row t.row_list
   row_fits =
       record {
         inside = ready.row_in;
@@ -71,7 +71,7 @@ module _ (samples : List Float) (tolerance : Float) (g : Reading) (s : Progress)
   -- a row has been read: w is its residual, and p its pivot
   module _ (w : List Float) (p : Pivot) (rows' list' : List ℕ) (row_is : w ≡ row_less m n samples t.us t.vs k s.next)
       (pivot-is : p ≡ pivot w (is_on columns)) (rows_are : rows' ≡ cleared rows s.next)
-      (list_is : list' ≡ set t.«row_list» read s.next) where
+      (list_is : list' ≡ set t.row_list read s.next) where
     row_long : length w ≡ n
     unfolding residual
     row_long = ap length row_is ∙ length_tabulate _ _
@@ -88,7 +88,7 @@ module _ (samples : List Float) (tolerance : Float) (g : Reading) (s : Progress)
     with_pivot = noted s p.size
 
     abbrev room : Lent
-    room = record { us = t.us; vs = t.vs; flags = columns; list = t.«column-list»; row = w; column = t.column }
+    room = record { us = t.us; vs = t.vs; flags = columns; list = t.column_list; row = w; column = t.column }
 
     pub term_fits : (s' : Progress) → s' ≡ with_pivot → TermFits (length samples) s'.rank p.place room
     term_fits s' e =
@@ -106,10 +106,10 @@ module _ (samples : List Float) (tolerance : Float) (g : Reading) (s : Progress)
 
     -- the rows and the columns read before this step, and this row
     abbrev is : List ℕ
-    is = take read t.«row_list» ++ s.next ∷ []
+    is = take read t.row_list ++ s.next ∷ []
 
     abbrev js : List ℕ
-    js = take k t.«column-list»
+    js = take k t.column_list
 
     abbrev us : List Float
     us = take (k * m) t.us
@@ -146,7 +146,7 @@ module _ (samples : List Float) (tolerance : Float) (g : Reading) (s : Progress)
 
     -- the flags of the rows say so too
     rows_more : Marks (cleared rows s.next) is
-    rows_more = marks_more rows (take read t.«row_list») s.next ready.rows_marked
+    rows_more = marks_more rows (take read t.row_list) s.next ready.rows_marked
 
     marked : (k : ℕ) → k < m → is_on rows' k ≡ unread is k
     marked k b = rw rows_are (rows_more k (omega (arith, ready.sizes.tall)))
@@ -156,7 +156,7 @@ module _ (samples : List Float) (tolerance : Float) (g : Reading) (s : Progress)
 
     -- it has no usable pivot
     pub stopped : (r : Step) → usable_here restart (is_on columns) p ≡ false → r ≡ without restart m (is_on rows') s →
-        Stepped g.low (made samples tolerance g s t) t r (memory t.us t.vs list' t.«column-list» w t.column) rows' columns
+        Stepped g.low (made samples tolerance g s t) t r (memory t.us t.vs list' t.column_list w t.column) rows' columns
     unfolding tried laid
     stopped r bare answer =
         let unusable : usable restart w (unread js) p ≡ false = asked ∙ bare in
@@ -166,12 +166,12 @@ module _ (samples : List Float) (tolerance : Float) (g : Reading) (s : Progress)
           memory_is =
               let u_long : k * m ≤ length t.us = omega (arith, u_room) in
               let v_long : k * n ≤ length t.vs = omega (arith, v_room) in
-              let some : k ≤ length t.«column-list» = omega (arith, ready.term) in
+              let some : k ≤ length t.column_list = omega (arith, ready.term) in
               rw (
                 ← upon_same (k * m) t.us u_long,
                 ← upon_same (k * n) t.vs v_long,
-                ← upon_same k t.«column-list» some,
-                ← upon_set read s.next t.«row_list» ready.place,
+                ← upon_same k t.column_list some,
+                ← upon_set read s.next t.row_list ready.place,
                 list_is,
               );
           known = known;
@@ -232,7 +232,7 @@ module _ (samples : List Float) (tolerance : Float) (g : Reading) (s : Progress)
           (sym
           (judged_cong m (is_on rows') (unread is) marked
           (grown with_pivot (norm x v) (cross k t.us t.vs x v) (argmax x (is_on rows'))) next restart (length
-          t.«column-list») tolerance (norm x v)) ∙ sym (rw column_long at term_is.answer_is))
+          t.column_list) tolerance (norm x v)) ∙ sym (rw column_long at term_is.answer_is))
 
       accepted_is : accepted restart block tolerance with_pivot after_column ≡ outcome r (stored after_column)
       unfolding accepted
@@ -250,8 +250,8 @@ module _ (samples : List Float) (tolerance : Float) (g : Reading) (s : Progress)
             answer_is = refl;
             memory_is =
                 rw (
-                  ← upon_set read s.next t.«row_list» ready.place,
-                  ← upon_set k j t.«column-list» ready.term,
+                  ← upon_set read s.next t.row_list ready.place,
+                  ← upon_set k j t.column_list ready.term,
                   ← upon_stretch (k * m) m x t.us nan column_long u_room,
                   ← upon_stretch (k * n) n v t.vs nan v_long v_room,
                   us_are,

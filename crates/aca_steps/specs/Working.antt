@@ -1,15 +1,12 @@
 -- What the parts of a step ask of lent memory, and what they leave there.
-use Rattle.std.specs.Prelude.{ℕ, ◌+◌, ◌*◌, ◌<◌, ◌≤◌, ◌≡◌, Bool, not, cond, ◌&&◌, List, Float, length, get_or, set}
+use Rattle.std.specs.Prelude.{ℕ, ◌+◌, ◌*◌, ◌<◌, ◌≤◌, ◌≡◌, Bool, List, Float, length, get_or, set}
 use Rattle.std.specs.Float.{nan}
-use Rattle.std.specs.Float.Ieee.{lt, le}
-use Rattle.std.specs.Borrow.{Bor}
 use Rattle.common.specs.Floats.{over, one₆₄}
 use Rattle.common.specs.Refusals.{most_entries}
 use Rattle.aca_pivots.specs.Flags.{is_on, cleared}
 use Rattle.aca_pivots.specs.Largest.{argmax}
 use Rattle.aca_lines.specs.Lines.{column_less, multiplied, as_column, norm, cross}
-use Rattle.aca_pivots.specs.declared.Pivot.{Pivot}
-use Rattle.aca_progress.specs.Crosses.{tiny₆₄, grown, judged}
+use Rattle.aca_progress.specs.Crosses.{grown, judged}
 use Rattle.aca_progress.specs.declared.Progress.{Progress}
 use Rattle.aca_progress.specs.declared.Step.{Step}
 
@@ -32,8 +29,8 @@ pub record Lent : Type 0 where
   pub row : List Float
   pub column : List Float
 
-abbrev pub lent : (u v : Bor (List Float)) → (flags list : Bor (List ℕ)) → (row column : Bor (List Float)) → Lent
-lent u v b j w x = record { us = u.now; vs = v.now; flags = b.now; list = j.now; row = w.now; column = x.now }
+abbrev pub lent : (u v : List Float) → (flags list : List ℕ) → (row column : List Float) → Lent
+lent u v b j w x = record { us = u; vs = v; flags = b; list = j; row = w; column = x }
 
 -- column j is read behind k terms, and there is room for one more
 pub record TermFits (samples k j : ℕ) (t : Lent) : Type 0 where

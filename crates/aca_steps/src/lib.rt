@@ -1,4 +1,6 @@
 // One step of cross approximation: a row is read, and where it has a pivot, the column through it and one more term.
+#![tactic(auto)]
+
 ghost use Rattle.std.specs.Prelude.{◌≡◌, ◌<◌, length, set};
 ghost use Rattle.common.specs.Refusals.{most_entries};
 ghost use Rattle.aca_pivots.specs.Flags.{is_on, cleared};
@@ -62,10 +64,10 @@ fn take_column(
     row: &mut [f64],
     column: &mut [f64],
 ) -> usize
-    requires { TermFits (length samples.now) k j (lent u v column_flags column_list row column) }
+    requires { TermFits (length samples.now) k j (lent u.now v.now column_flags.old column_list.old row.old column.old) }
     ensures value { result ≡ argmax column.new (is_on row_flags.now) }
     ensures column_taken { ColumnTaken samples.now k j
-        (lent u.entry v.entry column_flags.entry column_list.entry row.entry column.entry)
+        (lent u.now v.now column_flags.old column_list.old row.old column.old)
         row.new column.new column_flags.new column_list.new }
 {
     let columns = row.len();
@@ -90,11 +92,11 @@ fn accept(
     row: &mut [f64],
     column: &mut [f64],
 ) -> Step
-    requires { TermFits (length samples.now) s.rank j (lent u v column_flags column_list row column) ×
+    requires { TermFits (length samples.now) s.rank j (lent u.old v.old column_flags.old column_list.old row.old column.old) ×
         RowsKnown reading.low (length column.old) row_flags.now }
     ensures { TermStored samples.now tolerance reading.restart s j row_flags.now
-        (lent u.entry v.entry column_flags.entry column_list.entry row.entry column.entry)
-        result (lent u.exit v.exit column_flags.exit column_list.exit row.exit column.exit) }
+        (lent u.old v.old column_flags.old column_list.old row.old column.old)
+        result (lent u.new v.new column_flags.new column_list.new row.new column.new) }
 {
     let k = s.rank;
     let next = take_column(
@@ -138,12 +140,12 @@ pub fn advance(
     row: &mut [f64],
     column: &mut [f64],
 ) -> Step
-    requires { Ready (length samples.now) (behind u v row_list column_list row column) reading s
+    requires { Ready (length samples.now) (behind u.old v.old row_list.old column_list.old row.old column.old) reading s
         row_flags.old column_flags.old }
     ensures { Stepped reading.low (made samples.now tolerance reading s
-        (behind u.entry v.entry row_list.entry column_list.entry row.entry column.entry))
-        (behind u.entry v.entry row_list.entry column_list.entry row.entry column.entry)
-        result (behind u.exit v.exit row_list.exit column_list.exit row.exit column.exit)
+        (behind u.old v.old row_list.old column_list.old row.old column.old))
+        (behind u.old v.old row_list.old column_list.old row.old column.old)
+        result (behind u.new v.new row_list.new column_list.new row.new column.new)
         row_flags.new column_flags.new }
 {
     let k = s.rank;

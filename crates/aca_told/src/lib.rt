@@ -1,4 +1,6 @@
 // What cross approximation answers, told in two lent slices.
+#![tactic(auto)]
+
 ghost use Rattle.std.specs.Prelude.{◌≡◌, length};
 ghost use Rattle.aca.specs.Answers.{told};
 ghost use Rattle.aca_steps.specs.Memories.{behind};
@@ -56,10 +58,10 @@ pub fn aca_partial_pivoting_told(
     counts: &mut [usize],
     numbers: &mut [f64],
 ) -> u8
-    ensures { crossed result (behind u.exit v.exit row_list.exit column_list.exit row.exit column.exit)
+    ensures { crossed result (behind u.new v.new row_list.new column_list.new row.new column.new)
         counts.new numbers.new
         ≡ cross_told rows columns samples.now epsilon «restart»
-        (behind u.entry v.entry row_list.entry column_list.entry row.entry column.entry)
+        (behind u.old v.old row_list.old column_list.old row.old column.old)
         counts.old numbers.old }
 {
     if counts.len() != 3 {

@@ -1,4 +1,6 @@
 // What is said of the air at one point, from the gases there.
+#![tactic(auto)]
+
 ghost use Rattle.std.specs.Prelude.{◌≡◌};
 ghost use Rattle.airs.specs.Airs.{air_of, number_of};
 
@@ -11,7 +13,7 @@ pub struct Gases {
 }
 
 // A ratio, or why there is none: a field that cannot be used, or fresh air.
-#[derive(Drop)]
+#[derive(Clone, Copy)]
 pub enum Air {
     Ratio(f64),
     Unusable,

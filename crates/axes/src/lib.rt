@@ -1,5 +1,7 @@
 // What the coefficients need of each axis: S and S' at reference coordinates. They are the coefficients of a cell with one dimension,
 // column a*p + n for node n of axis a.
+#![tactic(auto)]
+
 ghost use Rattle.std.specs.Prelude.{◌≡◌, cond, ◌+◌, ◌*◌, ◌<◌, ◌≤◌, length, get_or};
 ghost use Rattle.std.specs.Float.{nan};
 ghost use Rattle.common.specs.Lists.{stretch};
@@ -8,7 +10,7 @@ ghost use Rattle.axes.specs.Axes.{factor_of, slope_of, S, S', on_axes, sum_of, s
 ghost use Rattle.axes.specs.Working.{at_nodes, AxisFit};
 
 // The cell that the points lie in: its dimension, how many nodes it has an axis, its side, and how many points lie in it.
-#[derive(Drop)]
+#[derive(Clone, Copy)]
 pub struct Cell {
     pub dimension: usize,
     pub order: usize,

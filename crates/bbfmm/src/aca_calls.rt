@@ -23,10 +23,10 @@ pub extern "C" fn bbfmm_aca_partial_pivoting(
     counts: &mut [usize],
     numbers: &mut [f64],
 ) -> u8
-    ensures { crossed result (behind u.exit v.exit row_list.exit column_list.exit row.exit column.exit)
+    ensures { crossed result (behind u.new v.new row_list.new column_list.new row.new column.new)
         counts.new numbers.new
         ≡ cross_told rows columns samples.now epsilon «restart»
-        (behind u.entry v.entry row_list.entry column_list.entry row.entry column.entry)
+        (behind u.old v.old row_list.old column_list.old row.old column.old)
         counts.old numbers.old }
 {
     aca_partial_pivoting_told(

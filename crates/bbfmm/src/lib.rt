@@ -1,4 +1,6 @@
 // The public calls for programs in C and Rust: numbers and slices in, a refusal's number out. include/bbfmm.h declares them.
+#![tactic(auto)]
+
 mod aca_calls;
 mod chebyshev_calls;
 mod choices_calls;

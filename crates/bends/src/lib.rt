@@ -1,4 +1,6 @@
 // What the curvatures need of each axis: S, S' and S'' at reference coordinates, column a*p + n for node n of axis a.
+#![tactic(auto)]
+
 ghost use Rattle.std.specs.Prelude.{◌≡◌, ◌++◌, ◌+◌, ◌-◌, ◌*◌, ◌<◌, ◌≤◌, length, get_or};
 ghost use Rattle.std.specs.Float.{nan};
 ghost use Rattle.common.specs.Lists.{stretch};

@@ -1,4 +1,6 @@
 // Chebyshev polynomials and their first two derivatives.
+#![tactic(auto)]
+
 mod polynomials;
 mod second;
 

@@ -1,4 +1,6 @@
 // What is chosen by size: the pivot of a masked line, and the rank at which singular values are cut off.
+#![tactic(auto)]
+
 mod argmax;
 mod cutoff;
 

@@ -1,4 +1,6 @@
 // What masked argmax and rank cutoff answer, told in a lent slice.
+#![tactic(auto)]
+
 ghost use Rattle.std.specs.Prelude.{◌≡◌};
 ghost use Rattle.choices.specs.Places.{told};
 ghost use Rattle.choices_told.specs.Told.{argmax_told, cutoff_told};

@@ -1,7 +1,7 @@
 -- The two calls are the one that they replace, as specs/Pair.antt states it: by their numbers, and by what they leave. Assumes nothing.
 use mathlib.Core.Path.{◌≡◌, refl, sym, ap, ◌∙◌}
-use mathlib.Core.Bool.{Bool, true, false, cond, ◌&&◌, true≢false, and-eq-true_iff}
-use mathlib.Core.List.{List, []}
+use mathlib.Core.Bool.{Bool, true, false, ◌&&◌, true≢false, and-eq-true_iff}
+use mathlib.Core.List.{List}
 use Prim.Native.Nat.{ℕ, zero, suc, ◌*◌, ◌/◌, ◌%◌, ◌^◌, ◌<◌, ◌≤◌}
 use native.Mathlib.Nat.{div-lt_iff_lt-mul}
 use native.Mathlib.Omega.{arith}
@@ -11,7 +11,7 @@ use lib.ListN.{length}
 use borrow.Author.Tests.{leb-true}
 use Rattle.common.specs.Digits.{digit}
 use Rattle.common.specs.Matrices.{matrix, column_major}
-use Rattle.common.specs.Refusals.{no_dimension, no_order, no_count, wrong_length, no_cell, not_finite, out_of_cell, lower, unless, left}
+use Rattle.common.specs.Refusals.{no_dimension, no_order, no_count, wrong_length, no_cell, not_finite, out_of_cell, lower, unless}
 use Rattle.common.specs.Refusals.{is_dimension, is_order, is_cell, most_points, Shape}
 use Rattle.common.proofs.Cases.{by_eq}
 use Rattle.common.proofs.Limits.{left_done, left_refused, call_done, passed, shape_passed}
@@ -21,7 +21,7 @@ use Rattle.coordinates.specs.Scaling.{scaling_fits, scaling_number, scale_call}
 use Rattle.coordinates.proofs.Scalings.{scaling_taken}
 use Rattle.coordinates.proofs.Cells.{scaled_finite}
 use Rattle.axes.specs.Axes.{S, S', on_axes}
-use Rattle.coefficients.specs.Coefficients.{products, factor, value, slope, gradient, with_gradients, takes_side, lengths, lengths_fit}
+use Rattle.coefficients.specs.Coefficients.{products, factor, value, gradient, with_gradients, takes_side, lengths, lengths_fit}
 use Rattle.coefficients.specs.Coefficients.{Memory, leaves, coefficients_number, coefficients_call}
 use Rattle.coefficients.specs.Before as old
 use Rattle.coefficients.specs.Pair.{wanted_of, scaled, found, LowestOfTwo, LowestAskedFirst, InTurn, SameValues}

@@ -1,5 +1,5 @@
 -- Approximation coefficients: what each node of a cell counts for at each point, and the slopes of that; and what the call leaves.
-use Rattle.std.specs.Prelude.{Bool, true, false, cond, ◌&&◌, List, [], ℕ, zero, suc, ◌+◌, ◌*◌, ◌/◌, ◌%◌, ◌^◌, leb, eqb, Float, length}
+use Rattle.std.specs.Prelude.{Bool, true, false, ◌&&◌, List, [], ℕ, zero, suc, ◌*◌, ◌/◌, ◌%◌, ◌^◌, leb, eqb, Float, length}
 use Rattle.common.specs.Digits.{digit}
 use Rattle.common.specs.Floats.{times, one₆₄}
 use Rattle.common.specs.Matrices.{matrix, column_major}

@@ -1,5 +1,7 @@
 // What each node of a cell counts for at points in the cell: coefficients of values, of gradients and of
 // curvatures, which stand in `curvatures`.
+#![tactic(auto)]
+
 mod call;
 mod columns;
 mod limits;

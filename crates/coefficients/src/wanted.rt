@@ -5,7 +5,7 @@ ghost use Rattle.coefficients.specs.Working.{side_of};
 
 // Values, or values and gradients. A gradient is along the axes of the cell and not of its reference coordinates, so it needs the
 // cell's side.
-#[derive(Drop)]
+#[derive(Clone, Copy)]
 pub enum Wanted {
     Values,
     Gradients { side: f64 },

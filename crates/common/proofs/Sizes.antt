@@ -5,11 +5,11 @@ use Prim.Native.Nat.{ℕ, zero, suc, ◌+◌, ◌*◌, ◌<◌}
 use native.Mathlib.Nat.{zero-mul, mul-pos, zero-lt-suc}
 use native.Mathlib.Omega.{arith}
 use lib.Dec.{eqb}
-use lib.IntN.{ℤ, pos}
+use lib.IntN.{ℤ}
 use lib.Ieee.{Float, nan, inf, fin, up, down, lt, eq, le, neg, of_bits, of_fields, odd}
 use lib.Ieee.Fits.{up_pos, down_pos}
 use borrow.Author.Tests.{lt-ltb, le-ltb, eq-eqb, ne_eqb}
-use Rattle.common.specs.Floats.{zero₆₄, size}
+use Rattle.common.specs.Floats.{size}
 use Rattle.common.proofs.Cases.{by_eq}
 
 -- SIGNS: what is not negative keeps its sign, and so does -0.0

@@ -42,6 +42,10 @@ difference (fin false m e) h =
 
 quotient : (x : Float) → T (positive x) → over zero₆₄ x ≡ zero₆₄
 unfolding div of_bits of_fields odd
+quotient nan h = elim h [ ]
+quotient (inf _) h = elim h [ ]
+quotient (fin false zero d) h = elim h [ ]
+quotient (fin true _ d) h = elim h [ ]
 quotient (fin false (suc n) d) h =
     rw (ne_eqb (suc n) 0 (λ e. omega arith))
     (no_quotient (0 * 1 * down d) (suc n * up d * 1) (zero-mul (down d))

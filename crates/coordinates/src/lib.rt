@@ -1,4 +1,6 @@
 // Coordinates: a physical one says where a point lies, a reference one where it lies in its cell, from -1 to 1.
+#![tactic(auto)]
+
 mod scaling;
 
 ghost use Rattle.std.specs.Prelude.{◌≡◌, ◌+◌, ◌*◌, ◌≤◌, length, get_or};

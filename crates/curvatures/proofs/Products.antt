@@ -1,6 +1,6 @@
 -- The product of a pair: from its sources; and from S, S' and S'' where they stand. Assumes nothing.
 use mathlib.Core.Path.{◌≡◌, refl, sym, ap, ◌∙◌}
-use mathlib.Core.Bool.{Bool, true, false, cond, ◌||◌}
+use mathlib.Core.Bool.{Bool, cond}
 use mathlib.Core.List.{List}
 use Prim.Native.Nat.{ℕ, zero, suc, ◌+◌, ◌-◌, ◌*◌, ◌/◌, ◌%◌, ◌^◌, ◌<◌, ◌≤◌}
 use native.Mathlib.Nat.{mul_assoc, div-lt_iff_lt-mul}
@@ -12,8 +12,7 @@ use borrow.Author.Tests.{eq-eqb, ne_eqb, leb-false}
 use borrow.Rule.Slice.PartMut.{put_mid}
 use Rattle.common.specs.Floats.{times}
 use Rattle.common.specs.Matrices.{cell, column_major}
-use Rattle.common.specs.Refusals.{Shape}
-use Rattle.common.proofs.Cases.{by_bool, by_eq}
+use Rattle.common.proofs.Cases.{by_bool}
 use Rattle.common.proofs.Fill.{part_length}
 use Rattle.common.proofs.Matrices.{column_cong, columns_filled, some_rows}
 use Rattle.common.proofs.Steps.{Stepping, stepping_done}

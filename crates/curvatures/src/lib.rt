@@ -1,4 +1,6 @@
 // Curvatures at points in a cell: the second derivatives of what each node counts for, for every pair of axes.
+#![tactic(auto)]
+
 mod call;
 mod columns;
 mod limits;

@@ -1,5 +1,7 @@
 // A distance kernel: a block of samples that needs no other program. Rows are the source points of a block at a reference vector,
 // columns the target points.
+#![tactic(auto)]
+
 mod blocks;
 mod limits;
 

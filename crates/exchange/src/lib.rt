@@ -1,4 +1,6 @@
 // Blocks of whole numbers as Matrix Market array files, integer and general, entries by columns.
+#![tactic(auto)]
+
 mod reading;
 mod writing;
 

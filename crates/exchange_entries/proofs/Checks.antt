@@ -1,6 +1,6 @@
 -- The entries, line after line: what the line at a place says of those that are left, and the values that fill a block. Assumes nothing.
 use mathlib.Core.Path.{◌≡◌, refl, sym, ap, ◌∙◌}
-use mathlib.Core.Bool.{Bool, true, false}
+use mathlib.Core.Bool.{true, false}
 use mathlib.Core.List.{List, [], ◌∷◌, map}
 use mathlib.Core.Option.{Option, some, none}
 use Prim.Native.Nat.{ℕ, zero, suc, ◌+◌, ◌-◌, ◌<◌, ◌≤◌}
@@ -15,9 +15,8 @@ use Rattle.common.specs.Refusals.{wrong_count, bad_entry}
 use Rattle.exchange_format.specs.Lines.{lines}
 use Rattle.exchange_format.specs.Words.{entry}
 use Rattle.exchange_format.specs.Reading.{Outcome, refuse, give, then, one_more, entries, float}
-use Rattle.exchange_entries.specs.declared.Check.{Check}
 use Rattle.exchange_entries.specs.declared.Check.TheVariants.{Fine, Fault}
-use Rattle.exchange_entries.specs.Working.{line_at, is_fit, Past, value_of, value_at, checked}
+use Rattle.exchange_entries.specs.Working.{line_at, is_fit, Past, value_at, checked}
 use Rattle.common.proofs.Cases.{by_lt}
 use Rattle.exchange_entries.proofs.Scans.{line_end}
 use Rattle.exchange_lines.proofs.Scanning.{lines_none, lines_some, lines_first, lines_rest}

@@ -1,4 +1,6 @@
 // The entries of a Matrix Market text, one a line: tested, and taken into a block.
+#![tactic(auto)]
+
 ghost use Rattle.std.specs.Prelude.{◌≡◌, true, [], ℕ, ◌≤◌, ◌<◌, length, drop, get_or};
 ghost use Rattle.common.specs.Lists.{tabulate};
 ghost use Rattle.exchange_format.specs.Lines.{lines};

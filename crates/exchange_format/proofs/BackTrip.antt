@@ -1,20 +1,16 @@
 -- What was read is written as a text that says the same. Assumes nothing.
-use mathlib.Core.Path.{◌≡◌, refl, sym, ap, ◌∙◌}
-use mathlib.Core.Bool.{true}
+use mathlib.Core.Path.{◌≡◌, refl, ap, ◌∙◌}
 use mathlib.Core.List.{List, [], ◌∷◌, map}
-use mathlib.Core.Option.{some}
 use Prim.Native.Nat.{ℕ, zero, suc, ◌+◌, ◌≤◌}
-use native.Mathlib.Omega.{arith}
-use lib.Dec.{T}
 use lib.IntN.{ℤ}
-use lib.Ieee.{Float, nan, fits, binary64}
+use lib.Ieee.{fits, binary64}
 use lib.Ieee.Fits.{of_int-fits}
-use lib.ListN.{length, get_or}
+use lib.ListN.{length}
 use borrow.Author.Tests.{le-leb, eq-eqb}
 use Rattle.common.specs.Refusals.{most_entries}
-use Rattle.exchange_format.specs.Reading.{give, Block, count, float, verdict}
+use Rattle.exchange_format.specs.Reading.{give, count, float}
 use Rattle.exchange_format.specs.Meaning.{EntryLines, EntryLines.no_line, EntryLines.one_line}
-use Rattle.exchange_format.specs.Writing.{whole_of, wholes, written, writing}
+use Rattle.exchange_format.specs.Writing.{wholes, written, writing}
 use Rattle.exchange_format.specs.Promises.{Floats, BackTrip}
 use Rattle.exchange_format.proofs.Meant.{read_entry, meaning}
 use Rattle.exchange_format.proofs.Exact.{unrounded}

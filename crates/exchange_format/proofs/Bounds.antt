@@ -1,5 +1,5 @@
 -- The line of a refusal: a text has no more lines than bytes, and no refusal stands past the line after the last. Assumes nothing.
-use mathlib.Core.Path.{◌≡◌, refl, sym, ap, ◌∙◌}
+use mathlib.Core.Path.{◌≡◌, refl}
 use mathlib.Core.Bool.{Bool, true, false, cond, ◌&&◌}
 use mathlib.Core.List.{List, [], ◌∷◌}
 use mathlib.Core.Option.{Option, some, none}
@@ -10,7 +10,7 @@ use lib.IntN.{ℤ}
 use lib.Ieee.{Float}
 use lib.ListN.{length}
 use Rattle.common.proofs.Cases.{by_bool}
-use Rattle.common.specs.Refusals.{wrong_length, no_first_line, no_size, most_entries}
+use Rattle.common.specs.Refusals.{wrong_length, no_size, most_entries}
 use Rattle.exchange_format.specs.Lines.{newline, onto, lines}
 use Rattle.exchange_format.specs.Words.{is_first, is_passed, Size, size, entry}
 use Rattle.exchange_format.specs.Reading.{Outcome, refuse, give, then, one_more, entries, Opened, opened, size_line, opening, Block}

@@ -2,7 +2,6 @@
 use mathlib.Core.Path.{◌≡◌}
 use mathlib.Core.Bool.{cond}
 use mathlib.Core.Option.{some}
-use mathlib.Core.List.{List}
 use Prim.Native.Nat.{ℕ, zero, suc, ◌*◌, ◌/◌, ◌^◌, ◌≤◌}
 use native.Mathlib.Omega.{arith}
 use lib.Dec.{T, leb, ltb, le→leb, lt→ltb, leb→le, ltb→lt}
@@ -11,7 +10,6 @@ use lib.Ieee.{Float, nan, inf, fin, binary64, up, down, whole, to_signed, in_sig
 use lib.Ieee.Back.{positive_back, negative_back}
 use lib.Ieee.Bits.{is_true}
 use lib.Ieee.Fits.{and_l}
-use Rattle.exchange_format.specs.Words.{entry}
 use Rattle.exchange_format.specs.Meaning.{EntryLine, EntryLine.plain, EntryLine.minus}
 use Rattle.exchange_format.specs.Reading.{float}
 use Rattle.exchange_format.specs.Writing.{whole_of}

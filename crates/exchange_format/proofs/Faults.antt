@@ -13,7 +13,7 @@ use Rattle.exchange_format.specs.Reading.{Outcome, refuse, give, then, one_more,
 use Rattle.exchange_format.specs.Reading.{filled_with, verdict}
 use Rattle.exchange_format.specs.Meaning.{SizeLine, EntryLine, EntryLines, EntryLines.no_line, EntryLines.one_line, PassedLines}
 use Rattle.exchange_format.specs.Meaning.{PassedLines.no_passed, PassedLines.one_passed, EntryFault, EntryFault.bad_entry_line}
-use Rattle.exchange_format.specs.Meaning.{EntryFault.too_few, EntryFault.too_many, SizeFault, SizeFault.no_size, SizeFault.bad_size}
+use Rattle.exchange_format.specs.Meaning.{EntryFault.too_few, EntryFault.too_many, SizeFault, SizeFault.no_size_line, SizeFault.bad_size}
 use Rattle.exchange_format.specs.Meaning.{SizeFault.after_size, Fault, Fault.no_text, Fault.no_first, Fault.after_first}
 use Rattle.exchange_format.proofs.Meant.{read_size, is_size, read_entry, is_entry, size_unpassed}
 
@@ -53,7 +53,7 @@ entry_fault k (suc n) (l ∷ ls) m j e = go (λ f. entry_fault (k + 1) n ls m j 
     go later (some z) p (give ys) q w = absurd (let y : ◌≡◌ {A = ℕ} 0 1 = cc in omega arith)
 
 push : {k m j : ℕ} {ls : List (List ℕ)} (l : List ℕ) → is_passed l ≡ true → SizeFault (k + 1) ls m j → SizeFault k (l ∷ ls) m j
-push y t (no_size {j} p e) = no_size {j = j} (one_passed t p) (omega arith)
+push y t (no_size_line {j} p e) = no_size_line {j = j} (one_passed t p) (omega arith)
 push y t (bad_size {passed} {j} x rest e p n d q) = bad_size {j = j} x rest (ap (λ (u : List (List ℕ)). y ∷ u) e) (one_passed t p) n d
     (omega arith)
 push {k} y t (after_size {passed} {l} {s} {m} {j} rest e p h f) =
@@ -65,7 +65,7 @@ unfolding size_line
 size_fault k [] m j e =
     let a : 14 ≡ m = cc in
     let b : k ≡ j = cc in
-    rw (← a, ← b) (no_size {j = k} no_passed (omega arith))
+    rw (← a, ← b) (no_size_line {j = k} no_passed (omega arith))
 size_fault k (l ∷ ls) m j e = go (λ f. size_fault (k + 1) ls m j f) (is_passed l) refl e
   where
     entered : (s : Size) → size l ≡ some s → (o : Outcome (List ℤ)) → entries (k + 1) (count s) ls ≡ o →
@@ -164,7 +164,7 @@ past_passed k rest (one_passed {l} {ls} t p) = let a : k + suc (length ls) ≡ k
 
 refused_size : (k : ℕ) (ls : List (List ℕ)) (m j : ℕ) → SizeFault k ls m j → then (size_line k ls) filled_with ≡ refuse m j
 unfolding size_line
-refused_size k ls m j (no_size p e) =
+refused_size k ls m j (no_size_line p e) =
     let w : size_line k ls ≡ size_line (k + length ls) [] = rw append-nil at (past_passed k [] p) in
     rw (w, e)
 refused_size k ls m j (bad_size {passed} l rest e p n d q) = rw (e, past_passed k (l ∷ rest) p, n, no_size_in l d, q)

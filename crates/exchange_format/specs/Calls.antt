@@ -4,7 +4,7 @@ use Rattle.std.specs.Prelude.{List, map, ◌++◌, ℕ, Float, length, drop}
 use Rattle.std.proofs.Math.Option.{Option, some, none}
 use Rattle.exchange_format.specs.Lines.{lines}
 use Rattle.exchange_format.specs.Words.{Size}
-use Rattle.exchange_format.specs.Reading.{Outcome, refuse, give, Opened, opening, Block, float, reading}
+use Rattle.exchange_format.specs.Reading.{Outcome, refuse, give, opening, Block, float, reading}
 use Rattle.exchange_format.specs.Writing.{writing}
 
 module _ {A B : Type 0} where

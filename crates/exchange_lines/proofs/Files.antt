@@ -1,19 +1,17 @@
 -- The lines before the entries, one after the other: what each line that is cut off the text says of the rest. Assumes nothing.
-use mathlib.Core.Path.{◌≡◌, refl, sym, ap, ◌∙◌}
+use mathlib.Core.Path.{◌≡◌, refl, sym, ◌∙◌}
 use mathlib.Core.Bool.{Bool, true, false}
-use mathlib.Core.List.{List, [], ◌∷◌}
+use mathlib.Core.List.{List, ◌∷◌}
 use mathlib.Core.Option.{Option, some, none}
 use Prim.Native.Nat.{ℕ, ◌+◌, ◌-◌, ◌<◌, ◌≤◌}
 use native.Mathlib.Omega.{arith}
 use lib.ListN.{length, take, drop}
-use Rattle.common.specs.Refusals.{most_entries}
 use Rattle.exchange_format.specs.Lines.{lines, space, before, from, past}
-use Rattle.exchange_format.specs.Words.{is_first, is_passed, Size, numeral, pair, size}
-use Rattle.exchange_format.specs.Reading.{Outcome, refuse, give, opened, size_line, opening}
+use Rattle.exchange_format.specs.Words.{is_first, is_passed, numeral, pair, size}
+use Rattle.exchange_format.specs.Reading.{refuse, give, opened, size_line, opening}
 use Rattle.exchange_lines.specs.Working.{Cut, size_of, opened_at}
 use Rattle.exchange_lines.specs.declared.numbers.Dimensions.{Dimensions}
 use Rattle.exchange_lines.specs.declared.numbers.Dimensions.TheVariants.{Of, Bad}
-use Rattle.exchange_lines.specs.declared.Cursor.{Cursor}
 use Rattle.exchange_lines.proofs.Scanning.{lines_none, lines_some}
 use Rattle.exchange_lines.proofs.Running.{numeral_most}
 

@@ -3,7 +3,7 @@ use mathlib.Core.Path.{◌≡◌, refl, sym, ap, ◌∙◌}
 use mathlib.Core.Bool.{Bool, true, false, and-false}
 use mathlib.Core.List.{List, [], ◌∷◌, map}
 use mathlib.Core.Option.{Option, some, none}
-use Prim.Native.Nat.{ℕ, suc, ◌+◌, ◌-◌, ◌^◌, ◌<◌, ◌≤◌}
+use Prim.Native.Nat.{ℕ, ◌+◌, ◌-◌, ◌<◌, ◌≤◌}
 use native.Mathlib.Nat.{not-suc-le-zero}
 use native.Mathlib.Omega.{arith}
 use lib.ListN.{length, get_or, take, drop, length-take, length-drop}
@@ -13,7 +13,7 @@ use lib.Dec.{leb}
 use Rattle.common.proofs.Cases.{inside}
 use Rattle.common.specs.Refusals.{most_entries}
 use Rattle.exchange_format.specs.Lines.{space, before, from, past, is_empty, same}
-use Rattle.exchange_format.specs.Words.{banner, kind, small, is_first, is_comment, is_passed, numeral, pair, size}
+use Rattle.exchange_format.specs.Words.{banner, kind, small, is_first, is_comment, is_passed, numeral, size}
 use Rattle.exchange_lines.specs.Working.{Skipped, cased, numeral_of, size_of}
 use Rattle.exchange_lines.specs.declared.numbers.Digits.{Digits}
 use Rattle.exchange_lines.specs.declared.numbers.Digits.TheVariants.{Value, Nothing}

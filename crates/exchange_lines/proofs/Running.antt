@@ -8,7 +8,7 @@ use native.Mathlib.Omega.{arith}
 use lib.Dec.{leb}
 use lib.ListN.{length}
 use borrow.Author.Tests.{le-leb, lt-leb, leb-true}
-use Rattle.common.proofs.Cases.{by_bool, of_not, inside_low, inside_high}
+use Rattle.common.proofs.Cases.{by_bool, inside_low, inside_high}
 use Rattle.exchange_format.specs.Lines.{is_empty, all}
 use Rattle.exchange_format.specs.Words.{is_digit, value_from, value, numeral}
 
@@ -23,11 +23,11 @@ pub a_digit : (b : ℕ) → is_digit b ≡ true → Digit b
 a_digit b d = record { is = d; least = inside_low 48 57 b d; most = inside_high 48 57 b d }
 
 module _ (b : ℕ) (r : Bool) (e : r ≡ is_digit b) where
-  pub passes : not r ≡ false → Digit b
-  passes t = a_digit b (sym e ∙ of_not r false t)
+  pub passes : r ≡ true → Digit b
+  passes t = a_digit b (sym e ∙ t)
 
-  pub fails : not r ≡ true → is_digit b ≡ false
-  fails t = sym e ∙ of_not r true t
+  pub fails : r ≡ false → is_digit b ≡ false
+  fails t = sym e ∙ t
 
 -- DIGIT BY DIGIT
 

@@ -1,4 +1,6 @@
 // The lines of a Matrix Market array file before its entries: the first line, what is passed over, and the size line.
+#![tactic(auto)]
+
 ghost use Rattle.std.specs.Prelude.{◌-◌, ◌+◌, ◌≤◌, length, take, drop};
 ghost use Rattle.exchange_format.specs.Lines.{lines};
 ghost use Rattle.exchange_format.specs.Words.{size};

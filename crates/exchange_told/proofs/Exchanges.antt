@@ -12,7 +12,7 @@ use lib.IntN.{ℤ}
 use lib.Ieee.{Float}
 use lib.ListN.{length}
 use Rattle.common.proofs.Cases.{by_bool}
-use Rattle.common.specs.Refusals.{most_entries, wrong_length}
+use Rattle.common.specs.Refusals.{most_entries}
 use Rattle.exchange_format.specs.Lines.{lines}
 use Rattle.exchange_format.specs.Words.{Size}
 use Rattle.exchange_format.specs.Reading.{Outcome, refuse, give, then, opening, Block, count, verdict, fitting, reading}

@@ -1,4 +1,6 @@
 // What the calls on Matrix Market texts answer, told in one number and lent slices: a refusal with its line.
+#![tactic(auto)]
+
 ghost use Rattle.std.specs.Prelude.{◌≡◌};
 ghost use Rattle.exchange.specs.Told.{told_sizes, told_written};
 ghost use Rattle.exchange_told.specs.Exchanged.{with_line, size_values, size_told, read_told, write_told};

@@ -1,6 +1,6 @@
 -- Digits that are stored from the last on: what stands there after some of them, and at the end. Assumes nothing.
 use Rattle.std.proofs.Common.{◌≡◌, ℕ, suc, ◌+◌, ◌-◌, ◌/◌, ◌%◌, ◌^◌, ◌<◌, ◌≤◌, min, List, [], ◌∷◌, ◌++◌, length, set, sym, refl, ap, ◌∙◌, append_assoc, append-nil, add-one, arith, length-append, length-set}
-use lib.Seq.{sets, length-sets, set_comm}
+use lib.Seq.{sets, set_comm}
 use Rattle.text.specs.Text.{decimal, put}
 use Rattle.exchange_writing.proofs.Lengths.{decimal_last, decimal_one, decimal_tenth, decimal_least}
 

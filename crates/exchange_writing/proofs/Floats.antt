@@ -28,16 +28,16 @@ found r (some m) n p q = let e : m ≡ n = cc in ap some e
 
 -- WITHOUT A MINUS
 
-in_float : (n : ℕ) → n ≤ 2 ^ 53 → T (in_float binary64 (pos n))
+as_float : (n : ℕ) → n ≤ 2 ^ 53 → T (in_float binary64 (pos n))
 unfolding in_float
-in_float n h = le→leb n (2 ^ 53) h
+as_float n h = le→leb n (2 ^ 53) h
 
 float_most : (n : ℕ) → T (in_float binary64 (pos n)) → n ≤ 2 ^ 53
 unfolding in_float
 float_most n t = leb→le n (2 ^ 53) t
 
 pub cast_fits : (n : ℕ) → n ≤ 9007199254740992 → T (in_float binary64 (pos n))
-cast_fits n h = in_float n h
+cast_fits n h = as_float n h
 
 refused : (x : Float) → (T (in_unsigned binary64 64 x) → ⊥) → Nothing ≡ size_answer (size_in x)
 unfolding size_in
@@ -50,7 +50,7 @@ module _ (x : Float) (n : ℕ) (f : T (fits binary64 x)) where
       let same : of_int binary64 (pos n) ≡ x =
       sym (of_bits-to_bits binary64 (of_int binary64 (pos n)) (of_int-fits binary64 (pos n))) ∙ ap (of_bits binary64) e ∙
       of_bits-to_bits binary64 x f in
-      let back = unsigned_back binary64 64 n (in_float n l) (omega arith) in
+      let back = unsigned_back binary64 64 n (as_float n l) (omega arith) in
       let t : in_unsigned binary64 64 x ≡ true =
       ap (in_unsigned binary64 64) (sym same) ∙ is_true (in_unsigned binary64 64 (of_int binary64 (pos n))) back.0 in
       let v : to_unsigned 64 x ≡ n = ap (to_unsigned 64) (sym same) ∙ back.1 in

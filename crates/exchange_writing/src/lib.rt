@@ -1,4 +1,6 @@
 // What writing a Matrix Market text is made of: how long the lines of its entries are, its first lines, and its entries.
+#![tactic(auto)]
+
 ghost use Rattle.std.specs.Prelude.{◌≡◌, ◌≤◌, length};
 ghost use Rattle.exchange_format.specs.Writing.{wholes};
 ghost use Rattle.exchange_writing.specs.Working.{measured};

@@ -15,7 +15,7 @@ use Rattle.common.specs.Matrices.{matrix}
 use Rattle.common.proofs.Fill.{Filling, filling_none, filling_more, changing_more, filling_done, stretch_none, stretch_length}
 use Rattle.common.proofs.Fill.{stretch_inside, stretch_cong, stretch_again, fill_read, fill_after, fill_all, fill_on}
 use Rattle.common.proofs.Sums.{adding_none, adding_next, adding_all}
-use Rattle.airs.specs.Airs.{air_of, number_of, ratio_or}
+use Rattle.airs.specs.Airs.{number_of, ratio_or}
 use Rattle.fields.specs.Fields.{field, air_at, answers_of, ratios_of}
 use Rattle.fields.specs.Working.{Runs, two_more, air_here, air_from, told_from, told_of}
 use Rattle.airs.specs.declared.Air.{Air}

@@ -1,4 +1,6 @@
 // The table of the Chebyshev nodes of the orders 1 to 16, one row an order, and what copies a row: Rattle has no cosine.
+#![tactic(auto)]
+
 ghost use Rattle.std.specs.Prelude.{◌≡◌, ◌≤◌, length};
 ghost use Rattle.common.specs.Lists.{tabulate};
 ghost use Rattle.node_rows.specs.Rows.{node};

@@ -1,4 +1,6 @@
 // The Chebyshev nodes of the orders 1 to 16, by one public call and by a set's number; the table of them stands in `node_rows`.
+#![tactic(auto)]
+
 ghost use Rattle.std.specs.Prelude.{◌≡◌};
 ghost use Rattle.nodes.specs.Nodes.{nodes_number, nodes_call};
 

@@ -1,4 +1,6 @@
 // The one-dimensional operators from the nodes of the lower and the upper child to those of their parent.
+#![tactic(auto)]
+
 ghost use Rattle.std.specs.Prelude.{◌≡◌, ◌+◌, ◌*◌, ◌<◌, ◌≤◌, length, get_or};
 ghost use Rattle.std.specs.Float.{nan};
 ghost use Rattle.common.specs.Floats.{minus, times};

@@ -11,7 +11,7 @@ ghost use Rattle.products.specs.Working.{second_axis, third_axis};
 use axes::Cell;
 
 // The axes of a product's sources, in their order; those past the dimension are not read.
-#[derive(Drop)]
+#[derive(Clone, Copy)]
 pub struct ThreeAxes {
     pub first: usize,
     pub second: usize,

@@ -1,4 +1,6 @@
 // Graham's ratio at points in a cell, or a word why there is none: over the public calls of `coefficients` alone.
+#![tactic(auto)]
+
 mod limits;
 
 ghost use Rattle.std.specs.Prelude.{◌≡◌, false, []};

@@ -1,4 +1,6 @@
 // The square root of an f64, rounded to the nearest one. The language has no root of its own, so it is worked out on whole numbers.
+#![tactic(auto)]
+
 mod guesses;
 mod whole;
 

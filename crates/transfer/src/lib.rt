@@ -1,4 +1,6 @@
 // The tensor transfer: the operators applied along each axis, from one lent buffer to the other.
+#![tactic(auto)]
+
 ghost use Rattle.std.specs.Prelude.{◌≡◌, ℕ, ◌+◌, ◌*◌, ◌-◌, ◌^◌, ◌/◌, ◌%◌, ◌<◌, ◌≤◌, length};
 ghost use Rattle.common.specs.Floats.{zero₆₄, spaced};
 ghost use Rattle.common.specs.Lists.{tabulate, stores};

@@ -1,5 +1,4 @@
 -- `answers::with_length` meets its contract: each return by its test. Assumes nothing.
-use borrow.Author.Rules.{rules}
 use mathlib.Core.Path.{sym}
 use Rattle.answers.specs.Answers.{with_length}
 use Rattle.answers.proofs.Lengths.{with_fit}

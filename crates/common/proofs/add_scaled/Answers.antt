@@ -1,11 +1,10 @@
 -- `common::add_scaled` meets its contract. The loop keeps `Filling`: i rows have their sums. Assumes nothing.
-use borrow.Author.Rules.{rules}
 use mathlib.Core.Path.{◌≡◌, refl}
-use Prim.Native.Nat.{◌+◌, ◌-◌}
+use Prim.Native.Nat.{◌+◌}
 use lib.Ieee.{nan}
 use lib.ListN.{get_or}
 use Rattle.common.specs.Floats.{plus, times}
-use Rattle.common.proofs.Fill.{Filling, filling_none, filling_more, filling_here, filling_done}
+use Rattle.common.proofs.Fill.{filling_none, filling_more, filling_here, filling_done}
 use Rattle.common.proofs.add_scaled.Goals as goal
 
 pub loop-i-init : goal.loop-i-init

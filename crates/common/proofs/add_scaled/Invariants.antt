@@ -1,11 +1,9 @@
 -- `common::add_scaled` meets its contract. The loop keeps `Filling`: i rows have their sums. Assumes nothing.
-use borrow.Author.Rules.{rules}
-use mathlib.Core.Path.{◌≡◌, refl}
 use Prim.Native.Nat.{◌+◌, ◌-◌}
 use lib.Ieee.{nan}
 use lib.ListN.{get_or}
 use Rattle.common.specs.Floats.{plus, times}
-use Rattle.common.proofs.Fill.{Filling, filling_none, filling_more, filling_here, filling_done}
+use Rattle.common.proofs.Fill.{Filling}
 use Rattle.common.proofs.add_scaled.Given as goal
 
 abbrev pub invariant-loop-i : goal.invariant-loop-i

@@ -1,10 +1,8 @@
 -- `common::copy_column` meets its contract. The loop keeps `Filling`: i rows are copied. Assumes nothing.
-use borrow.Author.Rules.{rules}
-use mathlib.Core.Path.{refl}
 use Prim.Native.Nat.{◌-◌}
 use lib.Ieee.{nan}
 use lib.ListN.{get_or}
-use Rattle.common.proofs.Fill.{Filling, filling_none, filling_more, filling_done}
+use Rattle.common.proofs.Fill.{Filling}
 use Rattle.common.proofs.copy_column.Given as goal
 
 abbrev pub invariant-loop-i : goal.invariant-loop-i

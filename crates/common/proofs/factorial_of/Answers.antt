@@ -1,5 +1,4 @@
 -- `common::factorial_of` meets its contract: the table's rule. Assumes nothing.
-use borrow.Author.Rules.{rules}
 use Rattle.common.proofs.Factorials.{factorial_at}
 use Rattle.common.proofs.factorial_of.Goals as goal
 

@@ -1,9 +1,7 @@
 -- `common::fill_with` meets its contract. The loop keeps `Filling`: i rows hold the value. Assumes nothing.
-use borrow.Author.Rules.{rules}
 use mathlib.Core.Path.{refl}
-use Prim.Native.Nat.{◌-◌}
 use lib.Ieee.{nan}
-use Rattle.common.proofs.Fill.{Filling, filling_none, filling_more, filling_done}
+use Rattle.common.proofs.Fill.{filling_none, filling_more, filling_done}
 use Rattle.common.proofs.fill_with.Goals as goal
 
 pub loop-i-init : goal.loop-i-init

@@ -1,9 +1,6 @@
 -- `common::fill_with` meets its contract. The loop keeps `Filling`: i rows hold the value. Assumes nothing.
-use borrow.Author.Rules.{rules}
-use mathlib.Core.Path.{refl}
 use Prim.Native.Nat.{◌-◌}
-use lib.Ieee.{nan}
-use Rattle.common.proofs.Fill.{Filling, filling_none, filling_more, filling_done}
+use Rattle.common.proofs.Fill.{Filling}
 use Rattle.common.proofs.fill_with.Given as goal
 
 abbrev pub invariant-loop-i : goal.invariant-loop-i

@@ -1,5 +1,4 @@
 -- `common::index_on` meets its contract, by how many axes come after. Assumes nothing.
-use borrow.Author.Rules.{rules}
 use Prim.Native.Nat.{◌-◌}
 use native.Mathlib.Nat.{mul-le-mul, pow-zero, div-one}
 use native.Mathlib.Omega.{arith}

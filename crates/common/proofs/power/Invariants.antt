@@ -1,10 +1,6 @@
 -- `common::power` meets its contract. The loop keeps: r is the base to the power i. Assumes nothing.
 use mathlib.Core.Path.{◌≡◌}
 use Prim.Native.Nat.{◌-◌, ◌^◌, ◌≤◌}
-use native.Mathlib.Nat.{mul-le-mul, pow-suc, pow-zero}
-use native.Mathlib.Numerals.{add-one}
-use native.Mathlib.Omega.{arith}
-use Rattle.common.proofs.Limits.{power_most}
 use Rattle.common.proofs.power.Given as goal
 
 abbrev pub invariant-loop-i : goal.invariant-loop-i

@@ -1,5 +1,4 @@
 -- `common::shape_number` meets its contract: each return by the tests that led there. Assumes nothing.
-use borrow.Author.Rules.{rules}
 use borrow.Author.Tests.{lt-leb, le-leb}
 use Rattle.common.specs.Refusals.{shape_number}
 use Rattle.common.proofs.Cases.{inside}

@@ -1,9 +1,6 @@
 -- `mending_counts::count_few` meets its contract. The loop's invariant: the bytes before `i` are counted. The measure is what is left of
 -- the text. Assumes nothing.
-use mathlib.Core.Path.{◌≡◌}
-use Prim.Native.Nat.{◌-◌, ◌≤◌}
 use native.Mathlib.Omega.{arith}
-use lib.ListN.{length, take}
 use Rattle.mending_counts.specs.Occurrences.{occurs}
 use Rattle.mending_counts.proofs.Occurring.{occurs_same, occurs_other, occurs_done}
 use borrow.Author.Rules.{rules}

@@ -1,13 +1,9 @@
 -- `mending_counts::count_of` meets its contract. The loop's invariant: the bytes before `i` are counted. The measure is what is left of the
 -- text. Assumes nothing.
-use mathlib.Core.Path.{◌≡◌, ◌∙◌}
-use Prim.Native.Nat.{◌+◌, ◌-◌, ◌≤◌}
-use native.Mathlib.Omega.{arith}
+use mathlib.Core.Path.{◌≡◌}
+use Prim.Native.Nat.{◌-◌, ◌≤◌}
 use lib.ListN.{length, take}
-use lib.Seq.{length-take-le}
 use Rattle.mending_counts.specs.Occurrences.{occurs}
-use Rattle.mending_counts.proofs.Occurring.{occurs_part, occurs_done, occurs_most}
-use borrow.Author.Rules.{rules}
 use Rattle.mending_counts.proofs.count_of.Given as goal
 
 abbrev pub invariant-loop-i : goal.invariant-loop-i

@@ -1,12 +1,11 @@
 -- `passes::add_column` meets its contract. The loop keeps `Filling`: k sums are added to. Assumes nothing.
 use mathlib.Core.Path.{refl}
-use Prim.Native.Nat.{◌+◌, ◌-◌}
+use Prim.Native.Nat.{◌+◌}
 use lib.Ieee.{nan}
 use lib.ListN.{get_or}
 use Rattle.common.specs.Floats.{plus, times}
-use Rattle.common.proofs.Fill.{Filling, filling_none, changing_front, filling_whole}
+use Rattle.common.proofs.Fill.{filling_none, changing_front, filling_whole}
 use Rattle.passes.specs.Working.{added}
-use borrow.Author.Rules.{rules}
 use Rattle.passes.proofs.add_column.Goals as goal
 
 pub loop-k-init : goal.loop-k-init

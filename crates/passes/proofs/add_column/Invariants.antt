@@ -1,12 +1,7 @@
 -- `passes::add_column` meets its contract. The loop keeps `Filling`: k sums are added to. Assumes nothing.
-use mathlib.Core.Path.{refl}
-use Prim.Native.Nat.{◌+◌, ◌-◌}
-use lib.Ieee.{nan}
-use lib.ListN.{get_or}
-use Rattle.common.specs.Floats.{plus, times}
-use Rattle.common.proofs.Fill.{Filling, filling_none, changing_front, filling_whole}
+use Prim.Native.Nat.{◌-◌}
+use Rattle.common.proofs.Fill.{Filling}
 use Rattle.passes.specs.Working.{added}
-use borrow.Author.Rules.{rules}
 use Rattle.passes.proofs.add_column.Given as goal
 
 abbrev pub invariant-loop-k : goal.invariant-loop-k

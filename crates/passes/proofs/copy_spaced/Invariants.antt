@@ -1,14 +1,9 @@
 -- `passes::copy_spaced` meets its contract. The loop keeps: k entries are stored. Assumes nothing.
-use mathlib.Core.Path.{◌≡◌, refl, ap, ◌∙◌}
-use mathlib.Core.List.{List}
+use mathlib.Core.Path.{◌≡◌}
 use Prim.Native.Nat.{◌+◌, ◌-◌, ◌*◌, ◌≤◌}
-use native.Mathlib.Omega.{arith}
-use lib.Ieee.{Float}
-use lib.ListN.{length, set, length-set}
+use lib.ListN.{length}
 use Rattle.common.specs.Floats.{spaced}
 use Rattle.common.specs.Lists.{stores}
-use Rattle.common.proofs.Stores.{stores_more}
-use borrow.Author.Rules.{rules}
 use Rattle.passes.proofs.copy_spaced.Given as goal
 
 abbrev pub invariant-loop-k : goal.invariant-loop-k

@@ -6,7 +6,6 @@ use lib.Arith.{digits_lt}
 use Rattle.common.proofs.Rows.{row_fits}
 use Rattle.common.proofs.Stores.{stores_cong}
 use Rattle.passes.proofs.Strips.{row_transposed, row_standing}
-use borrow.Author.Rules.{rules}
 use Rattle.passes.proofs.lay_row.Goals as goal
 
 pub overflow_mul-r : goal.overflow_mul-r

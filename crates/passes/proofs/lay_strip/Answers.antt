@@ -1,13 +1,10 @@
 -- `passes::lay_strip` meets its contract. The loop keeps: the first k rows are laid. Assumes nothing.
-use mathlib.Core.Path.{◌≡◌, sym, ap, ◌∙◌}
-use Prim.Native.Nat.{◌-◌, ◌≤◌}
+use mathlib.Core.Path.{◌≡◌, sym, ◌∙◌}
 use native.Mathlib.Nat.{not-suc-le-zero}
 use native.Mathlib.Omega.{arith}
 use Rattle.common.specs.Matrices.{matrix}
 use Rattle.passes.specs.Passes.{directed}
-use Rattle.passes.specs.Working.{StripOf}
 use Rattle.passes.proofs.Strips.{lay_more}
-use borrow.Author.Rules.{rules}
 use Rattle.passes.proofs.lay_strip.Goals as goal
 
 pub loop-k-init : goal.loop-k-init

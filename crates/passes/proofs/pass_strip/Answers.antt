@@ -1,7 +1,7 @@
 -- `passes::pass_strip` meets its contract. The loop keeps: the first c columns have their sums. Assumes nothing.
 use mathlib.Core.Path.{◌≡◌, refl, sym, ap, ◌∙◌}
 use mathlib.Core.List.{List}
-use Prim.Native.Nat.{ℕ, ◌+◌, ◌-◌, ◌*◌, ◌<◌, ◌≤◌}
+use Prim.Native.Nat.{◌+◌, ◌*◌}
 use native.Mathlib.Nat.{not-suc-le-zero, zero-mul}
 use native.Mathlib.Omega.{arith}
 use lib.Ieee.{Float, nan}
@@ -10,7 +10,6 @@ use Rattle.common.proofs.Matrices.{next_column, column_fits, by_entries}
 use Rattle.common.proofs.Rows.{row_fits, rows_more}
 use Rattle.passes.specs.Working.{summed}
 use Rattle.passes.proofs.Strips.{column_sum}
-use borrow.Author.Rules.{rules}
 use Rattle.passes.proofs.pass_strip.Goals as goal
 
 pub loop-c-init : goal.loop-c-init

@@ -1,11 +1,10 @@
 -- `polynomial_columns::both_columns` meets its contract: by the column's number. Assumes nothing.
-use mathlib.Core.Path.{◌≡◌, sym, ap, ◌∙◌}
+use mathlib.Core.Path.{◌≡◌, ◌∙◌}
 use mathlib.Core.List.{List}
 use Prim.Native.Nat.{ℕ}
 use lib.Ieee.{Float}
 use Rattle.common.specs.Lists.{stretch}
 use Rattle.polynomial_columns.proofs.Numbers.{two_before, is_first, is_second, is_later}
-use borrow.Author.Rules.{rules}
 use Rattle.polynomial_columns.proofs.both_columns.Goals as goal
 
 -- the same column under its number

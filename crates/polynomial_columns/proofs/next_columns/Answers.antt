@@ -5,9 +5,8 @@ use Prim.Native.Nat.{◌+◌, ◌-◌}
 use native.Mathlib.Omega.{arith}
 use lib.Ieee.{nan}
 use lib.ListN.{get_or}
-use Rattle.common.proofs.Fill.{Filling, filling_none, filling_more, filling_done, filling_before}
+use Rattle.common.proofs.Fill.{filling_none, filling_more, filling_done, filling_before}
 use Rattle.polynomial_columns.specs.Working.{later_T, later_T'}
-use borrow.Author.Rules.{rules}
 use Rattle.polynomial_columns.proofs.next_columns.Goals as goal
 
 pub loop-i-init : goal.loop-i-init

@@ -1,13 +1,8 @@
 -- `polynomial_columns::next_polynomials` meets its contract. The loop keeps `Filling`: i rows hold the next value, and the columns
 -- before are as they were. Assumes nothing.
-use mathlib.Core.Path.{◌≡◌, refl}
-use Prim.Native.Nat.{◌+◌, ◌-◌}
-use native.Mathlib.Omega.{arith}
-use lib.Ieee.{nan}
-use lib.ListN.{get_or}
-use Rattle.common.proofs.Fill.{Filling, filling_none, filling_more, filling_done, filling_before}
+use Prim.Native.Nat.{◌-◌}
+use Rattle.common.proofs.Fill.{Filling}
 use Rattle.polynomial_columns.specs.Working.{later_T}
-use borrow.Author.Rules.{rules}
 use Rattle.polynomial_columns.proofs.next_polynomials.Given as goal
 
 abbrev pub invariant-loop-i : goal.invariant-loop-i

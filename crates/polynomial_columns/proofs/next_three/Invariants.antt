@@ -1,13 +1,8 @@
 -- `polynomial_columns::next_three` meets its contract. The loop keeps `Filling` of three buffers: i rows hold the next values, and the
 -- columns before are as they were. Assumes nothing.
-use mathlib.Core.Path.{◌≡◌, refl}
-use Prim.Native.Nat.{◌+◌, ◌-◌}
-use native.Mathlib.Omega.{arith}
-use lib.Ieee.{nan}
-use lib.ListN.{get_or}
-use Rattle.common.proofs.Fill.{Filling, filling_none, filling_more, filling_done, filling_before}
+use Prim.Native.Nat.{◌-◌}
+use Rattle.common.proofs.Fill.{Filling}
 use Rattle.polynomial_columns.specs.Working.{later_T, later_T', later_T''}
-use borrow.Author.Rules.{rules}
 use Rattle.polynomial_columns.proofs.next_three.Given as goal
 
 abbrev pub invariant-loop-i : goal.invariant-loop-i

@@ -7,7 +7,6 @@ use lib.Ieee.{Float}
 use Rattle.common.specs.Lists.{stretch}
 use Rattle.polynomial_columns.proofs.Numbers.{two_before, is_later}
 use Rattle.polynomial_columns.proofs.Numbers.{is_early}
-use borrow.Author.Rules.{rules}
 use Rattle.polynomial_columns.proofs.three_columns.Goals as goal
 
 -- the same column under its number

@@ -1,10 +1,8 @@
 -- `text::end_line` meets its contract: the place past the newline, or the line's end. Assumes nothing.
-use borrow.Author.Rules.{rules}
-use mathlib.Core.Path.{◌≡◌, sym, ap, ◌∙◌}
+use mathlib.Core.Path.{ap, ◌∙◌}
 use mathlib.Core.List.{List, [], ◌∷◌}
-use Prim.Native.Nat.{ℕ, ◌+◌, ◌-◌, min}
+use Prim.Native.Nat.{ℕ}
 use native.Mathlib.Omega.{arith}
-use lib.ListN.{length}
 use Rattle.io.proofs.Counting.{prefix_len_of_le}
 use Rattle.text.proofs.Putting.{put_length}
 use Rattle.text.proofs.end_line.Goals as goal

@@ -1,5 +1,4 @@
 -- `text::put_counted` meets its contract: the word, the number, and the line's end. Assumes nothing.
-use borrow.Author.Rules.{rules}
 use mathlib.Core.List.{[], ◌∷◌, ◌++◌}
 use Rattle.text.specs.Text.{spaced}
 use Rattle.text.proofs.Putting.{put_then}

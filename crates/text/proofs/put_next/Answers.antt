@@ -1,5 +1,4 @@
 -- `text::put_next` meets its contract: a space, and then the number. Assumes nothing.
-use borrow.Author.Rules.{rules}
 use mathlib.Core.List.{[], ◌∷◌}
 use Rattle.text.specs.Text.{decimal}
 use Rattle.text.proofs.Putting.{put_then}

@@ -1,10 +1,8 @@
 -- `text::put_number` meets its contract: the digits that `io` makes are those of the number's text. Assumes nothing.
-use borrow.Author.Rules.{rules}
 use mathlib.Core.Path.{ap, ◌∙◌}
 use mathlib.Core.List.{List}
 use Prim.Native.Nat.{ℕ}
-use lib.ListN.{take}
-use Rattle.text.specs.Text.{decimal, put}
+use Rattle.text.specs.Text.{put}
 use Rattle.text.proofs.Numbers.{fewest_decimal}
 use Rattle.text.proofs.put_number.Goals as goal
 

@@ -1,5 +1,4 @@
 -- `text::put_refusal` meets its contract: the word, and then the number. Assumes nothing.
-use borrow.Author.Rules.{rules}
 use Rattle.text.specs.Text.{spaced, refused_word}
 use Rattle.text.proofs.Putting.{put_then}
 use Rattle.text.proofs.put_refusal.Goals as goal

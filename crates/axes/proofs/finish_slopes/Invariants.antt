@@ -1,0 +1,14 @@
+-- `axes::finish_slopes` meets its contract. The loop keeps `Filling`: k sums are finished. Assumes nothing.
+use Prim.Native.Nat.{◌+◌, ◌-◌}
+use lib.Ieee.{nan}
+use lib.ListN.{get_or}
+use Rattle.common.proofs.Fill.{Filling}
+use Rattle.axes.specs.Axes.{slope_of}
+use Rattle.axes.proofs.finish_slopes.Given as goal
+
+abbrev pub invariant-loop-k : goal.invariant-loop-k
+invariant-loop-k l = Filling l.at l.count
+    (λ j. slope_of l.order l.side (get_or l.initial.slopes (l.at + j) nan)) l.initial.slopes l.slopes l.k
+
+abbrev pub decreases-loop-k : goal.decreases-loop-k
+decreases-loop-k l = l.count - l.k

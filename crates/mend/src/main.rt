@@ -177,11 +177,12 @@ fn mend_all(rt: &HostRuntime, from: &mut File, to: &mut File) -> Step {
 fn finish(
     rt: &HostRuntime,
     totals: &Totals,
-    made: &File,
+    made: File,
     to: &str,
     beside: &str,
 ) -> Result<(), Error> {
     made.sync_all()?;
+    drop(made);
     fs::rename(rt, beside, to)?;
     show(rt, totals, b'\n');
     Ok(())
@@ -217,7 +218,7 @@ fn mend_into(
     beside: &str,
 ) -> bool {
     match mend_all(rt, &mut file, &mut made) {
-        Step::Last(totals) => match finish(rt, &totals, &made, to, beside) {
+        Step::Last(totals) => match finish(rt, &totals, made, to, beside) {
             Ok(()) => return true,
             Err(why) => fail(rt, to.as_bytes(), why),
         },

@@ -4,9 +4,9 @@ use Rattle.answers.specs.Answers.{with_length}
 use Rattle.answers.proofs.Lengths.{with_fit}
 use Rattle.answers.proofs.with_length.Goals as goal
 
-pub returns-then-is_fit : goal.returns-then-is_fit
-returns-then-is_fit c = rw c.if-is_fit.true (sym (with_fit _))
+pub returns-then-is_fit-clause-number : goal.returns-then-is_fit-clause-number
+returns-then-is_fit-clause-number g c = rw c.if-is_fit.true (sym (with_fit _))
 
-pub returns : goal.returns
+pub returns-clause-number : goal.returns-clause-number
 unfolding with_length
-returns c = rw c.if-is_fit.false c.lower_of.ensures
+returns-clause-number g c = rw c.if-is_fit.false c.lower_of.ensures.number

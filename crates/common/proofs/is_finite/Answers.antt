@@ -1,13 +1,15 @@
--- `common::is_finite` meets its contract: each return by the tests that led there. Assumes nothing.
-use mathlib.Core.Path.{sym}
-use Rattle.common.proofs.Finite.{between}
+-- `common::is_finite` meets its contract: std's word for it is the same. Assumes nothing.
+use mathlib.Core.Path.{◌≡◌, refl, ◌∙◌}
+use lib.Ieee.{Float, nan, inf, fin}
+use lib.Ieee.Scale.{finite}
+use Rattle.std.specs.Float.{float_is_finite}
 use Rattle.common.proofs.is_finite.Goals as goal
 
-pub returns-then-x-top : goal.returns-then-x-top
-returns-then-x-top c = rw (sym (between c.args.x), c.if-top-x.true, c.if-x-top.true)
+same : (x : Float) → float_is_finite x ≡ finite x
+unfolding float_is_finite
+same nan = refl
+same (inf s) = refl
+same (fin s m e) = refl
 
-pub returns-else-x-top : goal.returns-else-x-top
-returns-else-x-top c = rw (sym (between c.args.x), c.if-top-x.true, c.if-x-top.false)
-
-pub returns-else-top-x : goal.returns-else-top-x
-returns-else-top-x c = rw (sym (between c.args.x), c.if-top-x.false)
+pub returns : goal.returns
+returns c = c.is_finite.ensures.value ∙ same c.args.x

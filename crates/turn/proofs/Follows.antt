@@ -1,12 +1,16 @@
 -- One node, followed by its indices: its image and its origin are the entries of both tables. Assumes nothing.
 use mathlib.Core.Path.{◌≡◌, refl, sym, ap, ◌∙◌}
 use mathlib.Core.Bool.{true}
+use mathlib.Core.Option.{none, some}
 use Prim.Native.Nat.{ℕ, zero, suc, ◌+◌, ◌-◌, ◌*◌, ◌/◌, ◌%◌, ◌^◌, ◌<◌, ◌≤◌}
 use native.Mathlib.Nat.{pow-zero, pow-succ', one-le-pow, div-one, div-div-eq-div-mul, div-lt_iff_lt-mul, mod-eq_of_lt}
 use native.Mathlib.Omega.{arith}
 use lib.Dec.{ltb}
 use lib.IntN.{ℤ}
-use borrow.Author.Tests.{ltb-true, lt-ltb, ne_eqb}
+use borrow.Author.Tests.{ltb-true, lt-ltb}
+use Rattle.std.specs.Prelude.{Result, Ok, Err}
+use Rattle.common.specs.Numbers.{number, told, told_number}
+use Rattle.common.specs.declared.refusals.Refusal.{Refusal}
 use Rattle.common.specs.Digits.{from_digits, digit}
 use Rattle.common.specs.Refusals.{Shape, lower, is_dimension, is_order, shape_number}
 use Rattle.common.specs.Threes.{three}
@@ -17,15 +21,12 @@ use Rattle.common.proofs.Digits.{digit_below, from_digits_cong}
 use Rattle.common.proofs.Limits.{shape_in, shape_out, shape_taken, passed, power_one, power_two}
 use Rattle.vectors.specs.Order.{axis, place, axis_order}
 use Rattle.vectors.specs.Vectors.{sizes, is_negative, case, at_most}
-use Rattle.vectors.specs.LookUps.{entries, look_up_number, turn_of, told_turning, turning_call}
+use Rattle.vectors.specs.LookUps.{entries, look_up_number, turn_of, turning_call}
 use Rattle.vectors.specs.declared.Vector.{Vector}
 use Rattle.vectors.specs.declared.Turn.{Turn}
-use Rattle.vectors.specs.declared.Turning.{Turning}
-use Rattle.vectors.specs.declared.Turning.TheVariants as turning
 use Rattle.vectors.proofs.Orders.{axis_order_below, axis_below, place_below}
 use Rattle.turn_tables.specs.Turned.{reversed, turned_index, turned, returned_index, returned}
-use Rattle.turn.specs.Follow.{follow_number, moves_of, told_followed, follow_call}
-use Rattle.turn.specs.declared.follow.Followed.TheVariants as followed
+use Rattle.turn.specs.Follow.{follow_number, moves_of, follow_call}
 use Rattle.turn_nodes.specs.Working.{negative_on, image_index, reversed_all, origin_index, Followable}
 use Rattle.turn.specs.Working.{indices_of, index_number, node_number}
 use Rattle.turn.proofs.Right.{case_axis, case_place, case_negative}
@@ -158,13 +159,6 @@ module _ (D p : ℕ) (v : ℕ → ℤ) (n : ℕ) (ok : Shape D p) (h : n < p ^ D
 
 -- THE NUMBER: the lower of the vector's and the node's
 
-lower_none : (a b : ℕ) → lower a b ≡ 0 → a ≡ 0
-unfolding lower
-lower_none zero b e = refl
-lower_none (suc a) zero e = rw (ne_eqb (suc a) 0 (λ z. omega arith)) at e
-lower_none (suc a) (suc b) e =
-    let h = rw (ne_eqb (suc a) 0 (λ z. omega arith), ne_eqb (suc b) 0 (λ z. omega arith)) at e in absurd (omega (arith, h))
-
 pub lower_number : (D p : ℕ) (s : ℕ → ℕ) (n : ℕ) → is_dimension D ≡ true → is_order p ≡ true →
     lower (look_up_number D s) (node_number D p n) ≡ follow_number D p s n
 unfolding look_up_number follow_number node_number lower
@@ -177,12 +171,12 @@ lower_number D p s n d o =
 
 module _ (D p : ℕ) (v : Vector) (n : ℕ) where
   pub follow_refused : (number : ℕ) → number ≡ follow_number D p (sizes (entries v)) n → (number ≡ 0 → ⊥) →
-      told_followed (followed.Refused number) ≡ follow_call D p v n
+      (number, none) ≡ follow_call D p v n
   unfolding follow_call
   follow_refused number e h = rw (← e) (answer_refused number _ h)
 
   pub shape_refused : (number : ℕ) → number ≡ shape_number D p → (number ≡ 0 → ⊥) →
-      told_followed (followed.Refused number) ≡ follow_call D p v n
+      (number, none) ≡ follow_call D p v n
   unfolding follow_number
   shape_refused number e h = follow_refused number (e ∙ shape_out D p _ (rw e at h)) h
 
@@ -192,40 +186,34 @@ module _ (D p : ℕ) (v : Vector) (n : ℕ) where
     number_is own node e e' =
         rw (e, e') (lower_number D p (sizes (entries v)) n (shape_in D p shape).0 (shape_in D p shape).1)
 
-    -- the vector is refused, and perhaps the node too
-    pub vector_refused : (t : Turning) (own node r : ℕ) → told_turning t ≡ turning_call D v → t ≡ turning.Refused own →
-        node ≡ node_number D p n → r ≡ lower own node → told_followed (followed.Refused r) ≡ follow_call D p v n
+    -- what the vector and the node together bring is the number; and where it is 0, the vector turns its reference so
+    pub lower_is : (t : Result Turn Refusal) (node : ℕ) → told t ≡ turning_call D v → node ≡ node_number D p n →
+        lower (told_number t) node ≡ follow_number D p (sizes (entries v)) n
     unfolding turning_call
-    vector_refused t own node r told e e' h =
-        let by = refused_by own (look_up_number D (sizes (entries v))) (turn_of D (entries v)) (sym (ap told_turning e) ∙ told) in
-        follow_refused r (h ∙ number_is own node by.0 e')
-        (λ z. by.1 (sym by.0 ∙ lower_none own node (sym h ∙ z)))
+    lower_is (Ok turn) node h e' = number_is 0 node (sym (done_by (look_up_number D (sizes (entries v))) (turn_of D (entries v)) turn h).0) e'
+    lower_is (Err own) node h e' =
+        number_is (number own) node (refused_by (number own) (look_up_number D (sizes (entries v))) (turn_of D (entries v)) h).0 e'
 
-    module _ (t : Turning) (turn : Turn) (node : ℕ) (told : told_turning t ≡ turning_call D v) (e : t ≡ turning.Found turn)
-        (e' : node ≡ node_number D p n) where
-      found : (look_up_number D (sizes (entries v)) ≡ 0) × (turn ≡ turn_of D (entries v))
+    module _ (turn : Turn) (h : told (Ok turn) ≡ turning_call D v) (node : node_number D p n ≡ 0) where
+      turned_so : (look_up_number D (sizes (entries v)) ≡ 0) × (turn ≡ turn_of D (entries v))
       unfolding turning_call
-      found = done_by (look_up_number D (sizes (entries v))) (turn_of D (entries v)) turn (sym (ap told_turning e) ∙ told)
+      turned_so = done_by (look_up_number D (sizes (entries v))) (turn_of D (entries v)) turn h
 
-      number : node ≡ follow_number D p (sizes (entries v)) n
+      taken : follow_number D p (sizes (entries v)) n ≡ 0
       unfolding lower
-      number = number_is 0 node (sym found.0) e'
+      taken = sym (number_is 0 0 (sym turned_so.0) (sym node))
 
-      -- the node is refused
-      pub node_refused : (node ≡ 0 → ⊥) → told_followed (followed.Refused node) ≡ follow_call D p v n
-      node_refused h = follow_refused node number h
-
-      pub turn_followable : node ≡ 0 → Followable D p turn (indices_of D p n)
-      turn_followable z = rw found.1 (followable D p (entries v) n (shape_taken D p shape) (node_below D p n (sym e' ∙ z)))
+      pub turn_followable : Followable D p turn (indices_of D p n)
+      turn_followable = rw turned_so.1 (followable D p (entries v) n (shape_taken D p shape) (node_below D p n node))
 
       -- both are taken
-      pub moves_found : node ≡ 0 → (image origin : ℕ) → image ≡ from_digits p D (image_index D p turn (indices_of D p n)) →
+      pub moves_found : (image origin : ℕ) → image ≡ from_digits p D (image_index D p turn (indices_of D p n)) →
           origin ≡ from_digits p D (origin_index D turn.order (reversed_all p turn (indices_of D p n))) →
-          told_followed (followed.Found (record { image = image; origin = origin })) ≡ follow_call D p v n
+          (0, some (record { image = image; origin = origin })) ≡ follow_call D p v n
       unfolding follow_call moves_of
-      moves_found z image origin i o =
+      moves_found image origin i o =
           let ok = shape_taken D p shape in
-          let h = node_below D p n (sym e' ∙ z) in
-          let image-is : image ≡ turned D p (case D (entries v)) n = i ∙ rw found.1 (image_right D p (entries v) n ok h) in
-          let origin-is : origin ≡ returned D p (case D (entries v)) n = o ∙ rw found.1 (origin_right D p (entries v) n ok h) in
-          rw (← number, z, image-is, origin-is)
+          let h = node_below D p n node in
+          let image-is : image ≡ turned D p (case D (entries v)) n = i ∙ rw turned_so.1 (image_right D p (entries v) n ok h) in
+          let origin-is : origin ≡ returned D p (case D (entries v)) n = o ∙ rw turned_so.1 (origin_right D p (entries v) n ok h) in
+          rw (taken, image-is, origin-is)

@@ -5,6 +5,8 @@ use Prim.Native.Nat.{ℕ, ◌^◌, ◌<◌}
 use lib.Dec.{ltb}
 use lib.ListN.{length}
 use borrow.Author.Tests.{ltb-true}
+use Rattle.std.specs.Prelude.{Ok}
+use Rattle.common.specs.Numbers.{told}
 use Rattle.common.specs.Lists.{tabulate}
 use Rattle.common.specs.Refusals.{Shape}
 use Rattle.common.proofs.Answers.{done_by}
@@ -16,10 +18,9 @@ use Rattle.vectors.specs.declared.Vector.{Vector}
 use Rattle.vectors.specs.declared.Known.{Known}
 use Rattle.turn_tables.specs.Turned.{turned, returned}
 use Rattle.turn.specs.Tables.{table_number, table_call}
-use Rattle.turn.specs.Follow.{follow_number, moves_of, told_followed, follow_call}
+use Rattle.turn.specs.Follow.{follow_number, moves_of, follow_call}
 use Rattle.turn.specs.FollowCalls.{NodesAreFollowed}
 use Rattle.turn.specs.declared.follow.Moves.{Moves}
-use Rattle.turn.specs.declared.follow.Followed.TheVariants as followed
 use Rattle.turn_tables.proofs.Nodes.{turned_below, returned_below, returned_turned, turned_returned}
 
 -- a table that was filled, at a place
@@ -35,7 +36,7 @@ pub record Taken (D p : ℕ) (v : Vector) (n : ℕ) (m : Moves) : Type 0 where
   pub below : n < p ^ D
   pub moves : m ≡ moves_of D p (entries v) n
 
-taken : (D p : ℕ) (v : Vector) (n : ℕ) (m : Moves) → told_followed (followed.Found m) ≡ follow_call D p v n → Taken D p v n m
+taken : (D p : ℕ) (v : Vector) (n : ℕ) (m : Moves) → told (Ok m) ≡ follow_call D p v n → Taken D p v n m
 unfolding follow_call follow_number
 taken D p v n m e =
     let done = done_by (follow_number D p (sizes (entries v)) n) (moves_of D p (entries v) n) m e in

@@ -1,14 +1,12 @@
 -- Where one node of the reference block goes, and which node comes to its place.
 use Rattle.std.specs.Prelude.{ℕ, ◌+◌, ◌-◌, ◌^◌, ltb, ℤ}
-use Rattle.std.proofs.Math.Option.{Option, none, some}
+use Rattle.std.proofs.Math.Option.{Option}
 use Rattle.common.specs.Refusals.{no_dimension, no_order, no_entry, no_case, not_zero, unless, is_dimension, is_order, answer}
 use Rattle.vectors.specs.Vectors.{sizes, case, at_most}
 use Rattle.vectors.specs.LookUps.{entries}
 use Rattle.vectors.specs.declared.Vector.{Vector}
 use Rattle.turn_tables.specs.Turned.{turned, returned}
 use Rattle.turn.specs.declared.follow.Moves.{Moves}
-use Rattle.turn.specs.declared.follow.Followed.{Followed}
-use Rattle.turn.specs.declared.follow.Followed.TheVariants as followed
 
 -- a dimension, an order, the vector's first entries, a node, and the entries past them: the lowest number wins
 unfoldable pub follow_number : (D p : ℕ) → (sizes : ℕ → ℕ) → (n : ℕ) → ℕ
@@ -20,10 +18,6 @@ follow_number D p s n =
 -- the entries at the node of both tables of the vector's case
 unfoldable pub moves_of : (D p : ℕ) → (ℕ → ℤ) → (n : ℕ) → Moves
 moves_of D p v n = record { image = turned D p (case D v) n; origin = returned D p (case D v) n }
-
-abbrev pub told_followed : Followed → ℕ × Option Moves
-told_followed (followed.Found m) = (0, some m)
-told_followed (followed.Refused n) = (n, none)
 
 unfoldable pub follow_call : (D p : ℕ) → Vector → (n : ℕ) → ℕ × Option Moves
 follow_call D p v n = answer (follow_number D p (sizes (entries v)) n) (moves_of D p (entries v) n)

@@ -8,7 +8,7 @@ ghost use Rattle.common.specs.Threes.{three};
 ghost use Rattle.vectors.specs.Order.{place};
 ghost use Rattle.turn_nodes.specs.Working.{negative_on, image_index, reversed_all, origin_index, Followable, place_of_other};
 
-use common::Three;
+use common::{Shape, Three};
 use turn_tables::{axis_of, reverse};
 use vectors::Turn;
 
@@ -42,10 +42,7 @@ fn is_reversed(turn: Turn, axis: usize) -> bool
 fn place_of_other(other: usize, k: usize) -> usize
     ensures { result ≡ place_of_other other k }
 {
-    if other == k {
-        return 1;
-    }
-    2
+    if other == k { 1 } else { 2 }
 }
 
 // The place of an axis in order number k. Two axes stand in their order or are exchanged. Of three, axis k / 2 stands first, and the
@@ -70,28 +67,30 @@ fn place_of(dimension: usize, k: usize, axis: usize) -> usize
     place_of_other(axis - 1, k % 2)
 }
 
-fn image_index(dimension: usize, order: usize, turn: Turn, n: Three, axis: usize) -> usize
-    requires { Followable dimension order turn n }
-    ensures { result ≡ image_index dimension order turn n axis }
+fn image_index(shape: Shape, turn: Turn, n: Three, axis: usize) -> usize
+    requires { Followable shape.dimension shape.order turn n }
+    ensures { result ≡ image_index shape.dimension shape.order turn n axis }
 {
+    let dimension = shape.dimension;
     if dimension <= axis {
         return 0;
     }
     let index = pick(n, place_of(dimension, turn.order, axis));
-    reverse(order, is_reversed(turn, axis), index)
+    reverse(shape.order, is_reversed(turn, axis), index)
 }
 
 // The node that a node with these indices goes to.
-pub fn image_of(dimension: usize, order: usize, turn: Turn, n: Three) -> usize
-    requires { Followable dimension order turn n }
-    ensures { result ≡ from_digits order dimension (image_index dimension order turn n) }
+pub fn image_of(shape: Shape, turn: Turn, n: Three) -> usize
+    requires { Followable shape.dimension shape.order turn n }
+    ensures { result ≡
+        from_digits shape.order shape.dimension (image_index shape.dimension shape.order turn n) }
 {
     let to = Three(
-        image_index(dimension, order, turn, n, 0),
-        image_index(dimension, order, turn, n, 1),
-        image_index(dimension, order, turn, n, 2),
+        image_index(shape, turn, n, 0),
+        image_index(shape, turn, n, 1),
+        image_index(shape, turn, n, 2),
     );
-    common::number_of(order, dimension, to)
+    common::number_of(shape.order, shape.dimension, to)
 }
 
 // The indices, each reversed where the entry is negative.
@@ -117,15 +116,17 @@ fn origin_index(dimension: usize, k: usize, back: Three, m: usize) -> usize
 }
 
 // The node that comes to the place of a node with these indices.
-pub fn origin_of(dimension: usize, order: usize, turn: Turn, n: Three) -> usize
-    requires { Followable dimension order turn n }
-    ensures { result ≡ from_digits order dimension (origin_index dimension turn.order (reversed_all order turn n)) }
+pub fn origin_of(shape: Shape, turn: Turn, n: Three) -> usize
+    requires { Followable shape.dimension shape.order turn n }
+    ensures { result ≡ from_digits shape.order shape.dimension
+        (origin_index shape.dimension turn.order (reversed_all shape.order turn n)) }
 {
-    let back = reverse_all(order, turn, n);
+    let dimension = shape.dimension;
+    let back = reverse_all(shape.order, turn, n);
     let from = Three(
         origin_index(dimension, turn.order, back, 0),
         origin_index(dimension, turn.order, back, 1),
         origin_index(dimension, turn.order, back, 2),
     );
-    common::number_of(order, dimension, from)
+    common::number_of(shape.order, dimension, from)
 }

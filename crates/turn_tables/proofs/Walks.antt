@@ -1,5 +1,5 @@
 -- Walking the nodes row by row: steps keep the image, and the stores of a row are those of its nodes. Assumes nothing.
-use Rattle.std.proofs.Common.{◌≡◌, ℕ, zero, suc, ◌+◌, ◌-◌, ◌*◌, ◌%◌, ◌^◌, ◌<◌, ◌≤◌, Bool, true, false, List, length, set, sym, refl, ap, ◌∙◌, add-zero, mod-lt, mod-eq_of_lt, mul_assoc, add-mul, mul-le-mul, lt_of_mul-lt-mul_right, pow-suc, zero-mul, mul-one, mul-div_cancel, add-one, arith, length-set, le-ltb, lt-ltb}
+use Rattle.std.proofs.Common.{◌≡◌, ℕ, zero, suc, ◌+◌, ◌-◌, ◌*◌, ◌%◌, ◌^◌, ◌<◌, ◌≤◌, Bool, true, false, List, length, set, sym, refl, ap, ◌∙◌, add-zero, mod-lt, mod-eq_of_lt, mul_assoc, add-mul, mul-le-mul, lt_of_mul-lt-mul_right, pow-suc, cond, not, eqb, zero-mul, mul-one, mul-div_cancel, add-one, arith, length-set, le-ltb, lt-ltb}
 use native.Mathlib.Nat.{zero-div, zero-mod, pow-zero, pow-le-pow_right}
 use native.Mathlib.Nat.{one-le-pow, mod-add-mod}
 use lib.Arith.{digits_mod}
@@ -11,7 +11,7 @@ use Rattle.vectors.specs.Order.{axis}
 use Rattle.turn_tables.specs.Turned.{reversed, negative, axis_of, turned_index, turned}
 use Rattle.turn_tables.specs.Working.{step_of, steps_of, stepped, stored, Runs}
 use Rattle.turn_tables.specs.declared.Steps.{Steps}
-use Rattle.common.proofs.Cases.{by_lt}
+use Rattle.common.proofs.Cases.{by_bool, by_lt}
 use Rattle.common.proofs.Digits.{from_digits_below}
 use Rattle.common.proofs.Limits.{power_most, power_one, power_two, power_rows}
 use Rattle.common.proofs.Stores.{stores_more, stores_cong, stores_add}
@@ -53,6 +53,18 @@ module _ (place value : ℕ → ℕ) (image step order : ℕ) (before : List ℕ
         made = rw (s.made, ha, hx) (stores_more place value i before);
         next = ht ∙ rw s.next (stepped_next image step i);
       }
+
+-- for the inverse, a flag that is not 0, the image is the place and the node the value
+abbrev pub place_of : (inverse : ℕ) (node image : ℕ → ℕ) → ℕ → ℕ
+place_of inverse node image = cond (eqb inverse 0) node image
+
+abbrev pub value_of : (inverse : ℕ) (node image : ℕ → ℕ) → ℕ → ℕ
+value_of inverse node image = cond (eqb inverse 0) image node
+
+pub stored_by : (inverse : ℕ) (node image : ℕ → ℕ) (n : ℕ) (l : List ℕ) →
+    stores (place_of inverse node image) (value_of inverse node image) n l ≡ stored (not (eqb inverse 0)) node image n l
+unfolding stored
+stored_by inverse node image n l = by_bool (eqb inverse 0) (λ e. rw e) (λ e. rw e)
 
 -- A STEP, from the factorial, the axis and its weight that a program has found
 

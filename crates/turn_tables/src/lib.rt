@@ -4,14 +4,15 @@
 
 ghost use Rattle.std.specs.Prelude.{◌≡◌, ◌+◌, ◌^◌, ◌<◌, ◌≤◌, length};
 ghost use Rattle.common.specs.Lists.{stores};
-ghost use Rattle.common.specs.Refusals.{Shape};
 ghost use Rattle.common.specs.Factorials.{factorial};
 ghost use Rattle.vectors.specs.Order.{skip, axis};
 ghost use Rattle.turn_tables.specs.Turned.{reversed, negative, turned};
 ghost use Rattle.turn_tables.specs.Working.{step_of, steps_of, stepped, stored, Runs};
 
+use common::Shape;
+
 // The image of node 0, and how far the image moves as the index on one of the last three axes rises by one.
-#[derive(Drop)]
+#[derive(Clone, Copy)]
 struct Steps {
     start: usize,
     node: usize,
@@ -24,10 +25,7 @@ fn other_axis(first: usize, a: usize) -> usize
     requires { a < 2 }
     ensures { result ≡ skip first a }
 {
-    if a < first {
-        return a;
-    }
-    a + 1
+    if a < first { a } else { a + 1 }
 }
 
 // Axis number m of order number k. Two axes stand in their order or are exchanged. Of three, axis k / 2 stands first, and the other
@@ -73,107 +71,90 @@ pub fn reverse(order: usize, is_reversed: bool, index: usize) -> usize
 }
 
 // The image of node 0: on a reversed axis the last index, on any other the first.
-fn start_of(dimension: usize, order: usize, case: usize) -> usize
-    requires { Shape dimension order }
-    ensures { result ≡ turned dimension order case 0 }
+fn start_of(shape: Shape, case: usize) -> usize
+    ensures { result ≡ turned shape.dimension shape.order case 0 }
 {
     let mut start = 0;
-    let mut axis = 0;
-    while axis < dimension {
-        let index = reverse(order, is_negative(dimension, case, axis), 0);
-        start = start * order + index;
-        axis += 1;
+    for axis in 0..shape.dimension {
+        let index = reverse(shape.order, is_negative(shape.dimension, case, axis), 0);
+        start = start * shape.order + index;
     }
     start
 }
 
 // How far the image moves, modulo 2^64, as the index on axis number e from the last rises by one.
-fn step_of(dimension: usize, order: usize, case: usize, e: usize) -> usize
-    requires { Shape dimension order }
-    ensures { result ≡ step_of dimension order case e }
+fn step_of(shape: Shape, case: usize, e: usize) -> usize
+    ensures { result ≡ step_of shape.dimension shape.order case e }
 {
+    let dimension = shape.dimension;
     if dimension <= e {
         return 0;
     }
     let m = dimension - 1 - e;
     let axis = axis_of(dimension, case % common::factorial_of(dimension), m);
-    let weight = common::power(order, dimension - 1 - axis);
+    let weight = common::power(shape.order, dimension - 1 - axis);
     if is_negative(dimension, case, axis) {
         return usize::MAX - (weight - 1);
     }
     weight
 }
 
-fn steps_of(dimension: usize, order: usize, case: usize) -> Steps
-    requires { Shape dimension order }
-    ensures { result ≡ steps_of dimension order case }
+fn steps_of(shape: Shape, case: usize) -> Steps
+    ensures { result ≡ steps_of shape.dimension shape.order case }
 {
     Steps {
-        start: start_of(dimension, order, case),
-        node: step_of(dimension, order, case, 0),
-        row: step_of(dimension, order, case, 1),
-        plane: step_of(dimension, order, case, 2),
+        start: start_of(shape, case),
+        node: step_of(shape, case, 0),
+        row: step_of(shape, case, 1),
+        plane: step_of(shape, case, 2),
     }
 }
 
-// Stores the images of a row of nodes, which begin at `image` and rise by `step`, at the nodes' places.
-fn store_images(node: usize, order: usize, image: usize, step: usize, table: &mut [u16])
+// Stores the images of a row of nodes, which begin at `image` and rise by `step`, at the nodes' places; for the inverse each node at
+// the place of its image.
+fn store_row<const INVERSE: bool>(
+    node: usize,
+    order: usize,
+    image: usize,
+    step: usize,
+    table: &mut [u16],
+)
     requires { Runs node order image step (length table.old) }
-    ensures { table.new ≡ stores (λ i. node + i) (stepped image step) order table.old }
+    ensures { table.new ≡ stored INVERSE (λ i. node + i) (stepped image step) order table.old }
 {
     let mut to = image;
-    let mut i = 0;
-    while i < order {
-        table[node + i] = to as u16;
-        to = std::num::wrapping_add_usize(to, step);
-        i += 1;
-    }
-}
-
-// Stores a row of nodes, each at the place of its image.
-fn store_nodes(node: usize, order: usize, image: usize, step: usize, table: &mut [u16])
-    requires { Runs node order image step (length table.old) }
-    ensures { table.new ≡ stores (stepped image step) (λ i. node + i) order table.old }
-{
-    let mut to = image;
-    let mut i = 0;
-    while i < order {
-        table[to] = (node + i) as u16;
-        to = std::num::wrapping_add_usize(to, step);
-        i += 1;
-    }
-}
-
-fn store_row(inverse: bool, node: usize, order: usize, image: usize, step: usize, table: &mut [u16])
-    requires { Runs node order image step (length table.old) }
-    ensures { table.new ≡ stored inverse (λ i. node + i) (stepped image step) order table.old }
-{
-    if inverse {
-        store_nodes(node, order, image, step, table);
-    } else {
-        store_images(node, order, image, step, table);
+    for i in 0..order {
+        let (place, value) = if INVERSE {
+            (to, node + i)
+        } else {
+            (node + i, to)
+        };
+        table[place] = value as u16;
+        to = to.wrapping_add(step);
     }
 }
 
 // Walks the nodes row by row. The image of a row's first node follows from the row before, or, for the first row of
 // a plane, from the plane before.
-pub fn fill(inverse: bool, dimension: usize, order: usize, case: usize, table: &mut [u16])
-    requires { Shape dimension order × (length table.old ≡ order ^ dimension) }
-    ensures { table.new ≡ stored inverse (λ n. n) (turned dimension order case) (order ^ dimension) table.old }
+pub fn fill<const INVERSE: bool>(shape: Shape, case: usize, table: &mut [u16])
+    requires { length table.old ≡ shape.order ^ shape.dimension }
+    ensures { table.new ≡
+        stored INVERSE (λ n. n) (turned shape.dimension shape.order case) (shape.order ^ shape.dimension) table.old }
 {
-    let steps = steps_of(dimension, order, case);
+    let order = shape.order;
+    let steps = steps_of(shape, case);
     let mut node = 0;
     let mut row = 0;
     let mut plane = steps.start;
     let mut image = steps.start;
     while node < table.len() {
-        store_row(inverse, node, order, image, steps.node, table);
+        store_row::<INVERSE>(node, order, image, steps.node, table);
         node += order;
         row += 1;
-        image = std::num::wrapping_add_usize(image, steps.row);
+        image = image.wrapping_add(steps.row);
         if row == order {
             row = 0;
-            plane = std::num::wrapping_add_usize(plane, steps.plane);
+            plane = plane.wrapping_add(steps.plane);
             image = plane;
         }
     }

@@ -2,30 +2,31 @@
 #![tactic(auto)]
 
 ghost use Rattle.std.specs.Prelude.{◌≡◌};
+ghost use Rattle.common.specs.Numbers.{told_number};
 ghost use Rattle.turn_told.specs.Told.{look_up_told, follow_told, reference_told};
 
 use answers::with_length;
-use turn::{Followed, LookUp, Reference, Vector, follow_node, look_up, reference_vector};
+use common::Refusal;
+use turn::{Vector, follow_node, look_up, reference_vector};
 
 // The vector (x, y, z): its index, its case, its reference number, and 1 where it is near, else 0.
-pub fn look_up_told(dimension: usize, x: i32, y: i32, z: i32, answer: &mut [usize]) -> u8
-    ensures { (result, answer.new) ≡ look_up_told dimension (x, y, z) answer.old }
+pub fn look_up_told(
+    dimension: usize,
+    x: i32,
+    y: i32,
+    z: i32,
+    answer: &mut [usize],
+) -> Result<(), Refusal>
+    ensures { (told_number result, answer.new) ≡ look_up_told dimension (x, y, z) answer.old }
 {
-    let is_fit = answer.len() == 4;
-    let found = look_up(dimension, Vector(x, y, z));
-    match found {
-        LookUp::Refused(number) => with_length(number, is_fit),
-        LookUp::Found(known) => {
-            if is_fit {
-                answer[0] = known.index;
-                answer[1] = known.case;
-                answer[2] = known.reference;
-                answer[3] = known.near as usize;
-                return 0;
-            }
-            common::WRONG_LENGTH
-        }
-    }
+    let known = with_length(look_up(dimension, Vector(x, y, z)), answer.len() == 4)?;
+    answer.copy_from_slice(&[
+        known.index,
+        known.case,
+        known.reference,
+        usize::from(known.near),
+    ]);
+    Ok(())
 }
 
 // Where a node goes under the table of the vector's case, and which node comes to its place.
@@ -37,44 +38,24 @@ pub fn follow_node_told(
     z: i32,
     node: usize,
     answer: &mut [usize],
-) -> u8
-    ensures { (result, answer.new) ≡ follow_told dimension order (x, y, z) node answer.old }
+) -> Result<(), Refusal>
+    ensures { (told_number result, answer.new) ≡ follow_told dimension order (x, y, z) node answer.old }
 {
-    let is_fit = answer.len() == 2;
     let found = follow_node(dimension, order, Vector(x, y, z), node);
-    match found {
-        Followed::Refused(number) => with_length(number, is_fit),
-        Followed::Found(moves) => {
-            if is_fit {
-                answer[0] = moves.image;
-                answer[1] = moves.origin;
-                return 0;
-            }
-            common::WRONG_LENGTH
-        }
-    }
+    let moves = with_length(found, answer.len() == 2)?;
+    answer.copy_from_slice(&[moves.image, moves.origin]);
+    Ok(())
 }
 
 // The three entries of the reference vector with this number.
-pub fn reference_vector_told(dimension: usize, number: usize, vector: &mut [i32]) -> u8
-    ensures { (result, vector.new) ≡ reference_told dimension number vector.old }
+pub fn reference_vector_told(
+    dimension: usize,
+    number: usize,
+    vector: &mut [i32],
+) -> Result<(), Refusal>
+    ensures { (told_number result, vector.new) ≡ reference_told dimension number vector.old }
 {
-    let is_fit = vector.len() == 3;
-    let found = reference_vector(dimension, number);
-    match found {
-        Reference::Refused(refused) => with_length(refused, is_fit),
-        Reference::Found(v) => {
-            if is_fit {
-                // Copies: only a whole local can be stored where a signed number lies.
-                let x = v.0;
-                let y = v.1;
-                let z = v.2;
-                vector[0] = x;
-                vector[1] = y;
-                vector[2] = z;
-                return 0;
-            }
-            common::WRONG_LENGTH
-        }
-    }
+    let Vector(x, y, z) = with_length(reference_vector(dimension, number), vector.len() == 3)?;
+    vector.copy_from_slice(&[x, y, z]);
+    Ok(())
 }

@@ -1,6 +1,7 @@
 -- A vector held as digits, three more than its entries, is the vector. Assumes nothing.
 use mathlib.Core.Path.{◌≡◌, refl, sym, ap, ◌∙◌}
 use mathlib.Core.Bool.{Bool, true, false, ◌&&◌, and-eq-true_iff, cond}
+use mathlib.Core.Option.{none, some}
 use Prim.Native.Nat.{ℕ, zero, suc, ◌+◌, ◌-◌, ◌*◌, ◌<◌, ◌≤◌}
 use native.Mathlib.Nat.{pow-le-pow_right}
 use native.Mathlib.Omega.{arith}
@@ -22,13 +23,11 @@ use Rattle.vectors.proofs.Sizes.{at_three}
 use Rattle.vectors.specs.declared.Vector.{Vector}
 use Rattle.common.specs.declared.Three.{Three}
 use Rattle.vectors.specs.declared.Known.{Known}
-use Rattle.vectors.specs.declared.LookUp.TheVariants.{Refused, Found}
 use Rattle.vectors.specs.declared.Turn.{Turn}
-use Rattle.vectors.specs.declared.Turning.TheVariants as turning
 use Rattle.common.specs.Factorials.{factorial}
 use Rattle.vectors.specs.Order.{axis_order}
 use Rattle.vectors.specs.Vectors.{sizes, sign, is_negative, index, case, at_most, near, reference_of}
-use Rattle.vectors.specs.LookUps.{entries, look_up_number, known_of, told_look_up, look_up, turn_of, told_turning, turning_call}
+use Rattle.vectors.specs.LookUps.{entries, look_up_number, known_of, look_up, turn_of, turning_call}
 use Rattle.common.specs.Threes.{three, Small}
 use Rattle.vectors.specs.Working.{shifted, unshifted, size_of, sign_of, vector_of, each_of, digits_of, digits_number, are_entries, are_zeros}
 use Rattle.vectors.specs.Working.{Past}
@@ -334,21 +333,20 @@ module _ (D : ℕ) (d : Three) (ok : Small D 7 d) where
 
 -- THE ANSWER
 
-pub refused_answer : (D n : ℕ) (v : Vector) → n ≡ digits_number D (three (digits_of v)) → (n ≡ 0 → ⊥) → told_look_up (Refused n) ≡ look_up D v
+pub refused_answer : (D n : ℕ) (v : Vector) → n ≡ digits_number D (three (digits_of v)) → (n ≡ 0 → ⊥) → (n, none) ≡ look_up D v
 unfolding look_up
 refused_answer D n v e h = rw (← number_held D v, ← e) (answer_refused n _ h)
 
 pub found_answer : (D : ℕ) (v : Vector) (r : Known) → digits_number D (three (digits_of v)) ≡ 0 → r ≡ known_of D (vector_of (digits_of v)) →
-    told_look_up (Found r) ≡ look_up D v
+    (0, some r) ≡ look_up D v
 unfolding look_up
 found_answer D v r e h = rw (← number_held D v, e, h, vector_held D v (taken D (digits_of v) e).0)
 
-pub refused_turning : (D n : ℕ) (v : Vector) → n ≡ digits_number D (three (digits_of v)) → (n ≡ 0 → ⊥) →
-    told_turning (turning.Refused n) ≡ turning_call D v
+pub refused_turning : (D n : ℕ) (v : Vector) → n ≡ digits_number D (three (digits_of v)) → (n ≡ 0 → ⊥) → (n, none) ≡ turning_call D v
 unfolding turning_call
 refused_turning D n v e h = rw (← number_held D v, ← e) (answer_refused n _ h)
 
 pub found_turning : (D : ℕ) (v : Vector) (t : Turn) → digits_number D (three (digits_of v)) ≡ 0 → t ≡ turn_of D (vector_of (digits_of v)) →
-    told_turning (turning.Found t) ≡ turning_call D v
+    (0, some t) ≡ turning_call D v
 unfolding turning_call
 found_turning D v t e h = rw (← number_held D v, e, h, vector_held D v (taken D (digits_of v) e).0)

@@ -2,6 +2,7 @@
 use mathlib.Core.Path.{◌≡◌, refl, sym, ap, ◌∙◌}
 use mathlib.Core.Bool.{Bool, true, false}
 use mathlib.Core.List.{List, [], ◌∷◌}
+use mathlib.Core.Option.{none, some}
 use Prim.Native.Nat.{ℕ, zero, suc, ◌+◌, ◌-◌, ◌<◌, ◌≤◌}
 use native.Mathlib.Numerals.{add-one}
 use native.Mathlib.Omega.{arith}
@@ -12,17 +13,18 @@ use borrow.Author.Tests.{lt-ltb, le-ltb, ltb-true, le-leb, lt-leb}
 use Rattle.common.specs.Tests.{each, those}
 use Rattle.common.specs.Digits.{from_digits, digit}
 use Rattle.common.specs.Lists.{tabulate}
+use Rattle.std.specs.Prelude.{Result, Ok, Err}
+use Rattle.common.specs.Numbers.{number, told}
 use Rattle.common.specs.Refusals.{is_dimension}
+use Rattle.common.specs.declared.refusals.Refusal.{Refusal}
 use Rattle.common.proofs.Answers.{refused_by, done_by}
 use Rattle.common.proofs.Cases.{by_bool, by_lt, by_last, inside}
 use Rattle.common.proofs.Fill.{get_d_tabulate}
 use Rattle.common.proofs.Limits.{passed}
 use Rattle.common.proofs.Tests.{each_at}
 use Rattle.vectors.specs.declared.Vector.{Vector}
-use Rattle.vectors.specs.declared.Reference.{Reference}
-use Rattle.vectors.specs.declared.Reference.TheVariants.{Refused, Found}
 use Rattle.vectors.specs.Vectors.{sizes, is_reference, references, entry}
-use Rattle.vectors.specs.LookUps.{entries, reference_number, reference_at, told_reference, reference_call}
+use Rattle.vectors.specs.LookUps.{entries, reference_number, reference_at, reference_call}
 
 abbrev v : (x y z : ℕ) → Vector
 v x y z = (pos x, pos y, pos z)
@@ -105,17 +107,17 @@ module _ (d i j : ℕ) (h : d < 3) (b : i < j) (l : j < length (get_or tables d 
 
 module _ (D d i n : ℕ) (l : List Vector) (h : d < 3) (here : D ≡ suc d) (held : get_or tables d [] ≡ l)
     (e : length (references (suc d)) ≡ n) where
-  pub found : (w : Vector) → i < n → told_reference (Found (get_or l i w)) ≡ reference_call D i
+  pub found : (w : Vector) → i < n → (0, some (get_or l i w)) ≡ reference_call D i
   unfolding reference_call reference_number
   found w b =
       rw (here, inside 1 3 (suc d) (omega arith) (omega arith), e, lt-ltb i n b)
-      (ap (λ (v : Vector). told_reference (Found v)) (at_dimension d i l w h held (rw e b)))
+      (ap (λ (v : Vector). (0, some v)) (at_dimension d i l w h held (rw e b)))
 
-  pub refused : n ≤ i → told_reference (Refused 5) ≡ reference_call D i
+  pub refused : n ≤ i → (5, none) ≡ reference_call D i
   unfolding reference_call reference_number
   refused b = rw (here, inside 1 3 (suc d) (omega arith) (omega arith), e, le-ltb i n b)
 
-pub no_dimension : (D i : ℕ) → (D ≡ 1 → ⊥) → (D ≡ 2 → ⊥) → (D ≡ 3 → ⊥) → told_reference (Refused 1) ≡ reference_call D i
+pub no_dimension : (D i : ℕ) → (D ≡ 1 → ⊥) → (D ≡ 2 → ⊥) → (D ≡ 3 → ⊥) → (1, none) ≡ reference_call D i
 unfolding reference_call reference_number
 no_dimension D i a b c =
     by_lt 3 D (λ l _. rw (le-leb 1 D (omega arith), lt-leb D 3 l)) (λ l _. rw (lt-leb 1 D (omega arith)))
@@ -130,15 +132,15 @@ reference_there D i (suc (suc (suc m))) h l = absurd (omega arith)
 
 -- BACK FROM WHAT IS ANSWERED to whether there is such a reference
 
-module _ (D i : ℕ) (r : Reference) (told : told_reference r ≡ reference_call D i) (d : is_dimension D ≡ true) where
-  pub reference_found : (v : Vector) → r ≡ Found v → (ltb i (length (references D)) ≡ true) × (v ≡ reference_at D i)
+module _ (D i : ℕ) (r : Result Vector Refusal) (by : told r ≡ reference_call D i) (d : is_dimension D ≡ true) where
+  pub reference_found : (v : Vector) → r ≡ Ok v → (ltb i (length (references D)) ≡ true) × (v ≡ reference_at D i)
   unfolding reference_call reference_number
   reference_found v e =
-      let done = done_by (reference_number D i) (reference_at D i) v (sym (ap told_reference e) ∙ told) in
+      let done = done_by (reference_number D i) (reference_at D i) v (sym (ap told e) ∙ by) in
       ((passed (ltb i (length (references D))) 4 0 (rw d at done.0)).0, done.1)
 
-  pub reference_none : (k : ℕ) → r ≡ Refused k → ltb i (length (references D)) ≡ false
+  pub reference_none : (k : Refusal) → r ≡ Err k → ltb i (length (references D)) ≡ false
   unfolding reference_call reference_number
   reference_none k e =
-      let refused = refused_by k (reference_number D i) (reference_at D i) (sym (ap told_reference e) ∙ told) in
+      let refused = refused_by (number k) (reference_number D i) (reference_at D i) (sym (ap told e) ∙ by) in
       by_bool (ltb i (length (references D))) (λ h. absurd (refused.1 (rw (d, h)))) (λ h. h)

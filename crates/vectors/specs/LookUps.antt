@@ -1,16 +1,10 @@
 -- What looking up a vector answers, how a vector turns its reference, and what asking for a reference vector answers.
 use Rattle.std.specs.Prelude.{ℕ, zero, suc, ◌+◌, ◌-◌, cond, ltb, ℤ, pos, length}
-use Rattle.std.proofs.Math.Option.{Option, none, some}
+use Rattle.std.proofs.Math.Option.{Option}
 use Rattle.common.specs.Refusals.{no_dimension, no_entry, no_case, not_zero, unless, is_dimension, answer}
 use Rattle.vectors.specs.declared.Vector.{Vector}
 use Rattle.vectors.specs.declared.Known.{Known}
-use Rattle.vectors.specs.declared.LookUp.{LookUp}
-use Rattle.vectors.specs.declared.LookUp.TheVariants as look
 use Rattle.vectors.specs.declared.Turn.{Turn}
-use Rattle.vectors.specs.declared.Turning.{Turning}
-use Rattle.vectors.specs.declared.Turning.TheVariants as turning
-use Rattle.vectors.specs.declared.Reference.{Reference}
-use Rattle.vectors.specs.declared.Reference.TheVariants as refer
 use Rattle.vectors.specs.Order.{axis_order}
 use Rattle.vectors.specs.Vectors.{sizes, is_negative, index, case, at_most, near, references, entry, reference}
 
@@ -32,11 +26,6 @@ look_up_number D s =
 unfoldable pub known_of : (D : ℕ) → (ℕ → ℤ) → Known
 known_of D v = record { index = index D v; case = case D v; reference = reference D v; near = near D v }
 
--- the paper's number and values for each case of the answer
-abbrev pub told_look_up : LookUp → ℕ × Option Known
-told_look_up (look.Found k) = (0, some k)
-told_look_up (look.Refused n) = (n, none)
-
 unfoldable pub look_up : (D : ℕ) → Vector → ℕ × Option Known
 look_up D v = answer (look_up_number D (sizes (entries v))) (known_of D (entries v))
 
@@ -45,10 +34,6 @@ look_up D v = answer (look_up_number D (sizes (entries v))) (known_of D (entries
 unfoldable pub turn_of : (D : ℕ) → (ℕ → ℤ) → Turn
 turn_of D v =
     record { first = is_negative (v 0); second = is_negative (v 1); third = is_negative (v 2); order = axis_order D (sizes v) }
-
-abbrev pub told_turning : Turning → ℕ × Option Turn
-told_turning (turning.Found t) = (0, some t)
-told_turning (turning.Refused n) = (n, none)
 
 unfoldable pub turning_call : (D : ℕ) → Vector → ℕ × Option Turn
 turning_call D v = answer (look_up_number D (sizes (entries v))) (turn_of D (entries v))
@@ -64,10 +49,6 @@ reference_at D i = (at 0, at 1, at 2)
   where
     at : ℕ → ℤ
     at a = cond (ltb a D) (pos (entry D i a)) (pos 0)
-
-abbrev pub told_reference : Reference → ℕ × Option Vector
-told_reference (refer.Found v) = (0, some v)
-told_reference (refer.Refused n) = (n, none)
 
 unfoldable pub reference_call : (D i : ℕ) → ℕ × Option Vector
 reference_call D i = answer (reference_number D i) (reference_at D i)

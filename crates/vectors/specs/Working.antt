@@ -2,10 +2,8 @@
 use Rattle.std.specs.Prelude.{ℕ, zero, suc, ◌+◌, ◌-◌, ◌<◌, min, ◌≡◌, Bool, cond, ◌&&◌, ◌||◌, leb, ltb, eqb, ℤ, pos, nat_abs, ◌+ℤ◌, ◌-ℤ◌}
 use Rattle.common.specs.Tests.{each}
 use Rattle.common.specs.Refusals.{no_dimension, no_entry, not_zero, unless, is_dimension}
-use Rattle.common.specs.Threes.{three}
 use Rattle.common.specs.declared.Three.{Three}
 use Rattle.vectors.specs.declared.Vector.{Vector}
-use Rattle.vectors.specs.declared.Kept.{Kept}
 
 -- an entry from -3 to 3 as a digit; 7 for any other
 unfoldable pub shifted : ℤ → ℕ
@@ -54,9 +52,6 @@ pub record Past (D given : ℕ) (t : Three) : Type 0 where
   pub second : D < 2 → t.1 ≡ given
   pub third : D < 3 → t.2 ≡ given
 
--- a vector as three digits, and the refusal that they bring, or 0
+-- a vector as three digits
 abbrev pub digits_of : Vector → Three
 digits_of v = (shifted v.0, shifted v.1, shifted v.2)
-
-unfoldable pub kept_of : (D : ℕ) → Vector → Kept
-kept_of D v = record { refused = digits_number D (three (digits_of v)); digits = digits_of v }

@@ -1,17 +1,18 @@
 // Looking up a vector: its index, its case and its reference. An entry is held as a digit, three more than it is.
 #![tactic(auto)]
 
-ghost use Rattle.std.specs.Prelude.{◌≡◌, ◌+◌, ◌*◌, ◌<◌, ◌≤◌, min, max};
+ghost use Rattle.std.specs.Prelude.{◌≡◌, ◌+◌, ◌*◌, ◌<◌, ◌≤◌, min, max, IfOk};
 ghost use Rattle.common.specs.Digits.{from_digits};
 ghost use Rattle.common.specs.Threes.{three, Small};
 ghost use Rattle.common.specs.Factorials.{factorial};
 ghost use Rattle.vectors.specs.Order.{axis_order};
 ghost use Rattle.vectors.specs.Vectors.{reference_of};
-ghost use Rattle.vectors.specs.LookUps.{told_look_up, look_up, known_of, turn_of, told_turning, turning_call, told_reference, reference_call};
+ghost use Rattle.common.specs.Numbers.{told, told_number};
+ghost use Rattle.vectors.specs.LookUps.{look_up, known_of, turn_of, turning_call, reference_call};
 ghost use Rattle.vectors.specs.Working.{shifted as shifted_to, size_of, sign_of, vector_of, each_of, swap};
-ghost use Rattle.vectors.specs.Working.{digits_number, are_entries, are_zeros, kept_of, Past};
+ghost use Rattle.vectors.specs.Working.{digits_of, digits_number, are_entries, are_zeros, Past};
 
-use common::Three;
+use common::{Refusal, Three};
 
 // A vector between two blocks: one whole number an axis, 0 past the dimension.
 #[derive(Clone, Copy)]
@@ -26,12 +27,6 @@ pub struct Known {
     pub near: bool,
 }
 
-#[derive(Clone, Copy)]
-pub enum LookUp {
-    Refused(u8),
-    Found(Known),
-}
-
 // How a vector turns its reference: which of its entries are negative, so that the axis is reversed, and the number of the order of
 // its axes by falling size.
 #[derive(Clone, Copy)]
@@ -40,25 +35,6 @@ pub struct Turn {
     pub second: bool,
     pub third: bool,
     pub order: usize,
-}
-
-#[derive(Drop)]
-pub enum Turning {
-    Refused(u8),
-    Found(Turn),
-}
-
-#[derive(Drop)]
-pub enum Reference {
-    Refused(u8),
-    Found(Vector),
-}
-
-// A vector as three digits, and the refusal that it brings, or 0.
-#[derive(Drop)]
-struct Kept {
-    refused: u8,
-    digits: Three,
 }
 
 const REFERENCES_1: [Vector; 2] = [Vector(2, 0, 0), Vector(3, 0, 0)];
@@ -111,13 +87,13 @@ fn shifted(e: i32) -> usize
 fn size_of(d: usize) -> usize
     ensures { result ≡ size_of d }
 {
-    if d < 3 { 3 - d } else { d - 3 }
+    d.abs_diff(3)
 }
 
 fn sign_of(d: usize) -> usize
     ensures { result ≡ sign_of d }
 {
-    if d < 3 { 0 } else { 1 }
+    usize::from(3 <= d)
 }
 
 fn sizes_of(d: Three) -> Three
@@ -136,7 +112,7 @@ fn signs_of(d: Three) -> Three
 fn swapped(a: usize, b: usize) -> usize
     ensures { result ≡ swap a b }
 {
-    if a < b { 1 } else { 0 }
+    usize::from(a < b)
 }
 
 // The number of the order by falling size, equals by axis number.
@@ -170,22 +146,16 @@ fn case_of(dimension: usize, d: Three, s: Three) -> usize
     signs * common::factorial_of(dimension) + axis_order_of(dimension, s)
 }
 
-fn most(a: usize, b: usize) -> usize
-    ensures { result ≡ max a b }
-{
-    if a < b { b } else { a }
-}
-
 fn largest_of(s: Three) -> usize
     ensures { result ≡ max (max s.0 s.1) s.2 }
 {
-    most(most(s.0, s.1), s.2)
+    s.0.max(s.1).max(s.2)
 }
 
 fn smallest_of(s: Three) -> usize
     ensures { result ≡ min (min s.0 s.1) s.2 }
 {
-    common::least(common::least(s.0, s.1), s.2)
+    s.0.min(s.1).min(s.2)
 }
 
 // The number of the reference with these sizes: how many references come before it. Those that begin with 2 number
@@ -236,45 +206,39 @@ fn are_zeros(dimension: usize, d: Three) -> bool
     ((2 <= dimension) | (d.1 == 3)) & ((3 <= dimension) | (d.2 == 3))
 }
 
-// The lowest refusal that the digits of a vector bring, or 0.
-fn digits_number(dimension: usize, d: Three) -> u8
+// The digits of a vector that is taken: those of entries on the axes, and of 0 past them.
+fn check_digits(dimension: usize, d: Three) -> Result<(), Refusal>
     requires { (d.0 < 8) × (d.1 < 8) × (d.2 < 8) }
-    ensures { result ≡ digits_number dimension (three d) }
+    ensures { told_number result ≡ digits_number dimension (three d) }
 {
-    if dimension < 1 {
-        return common::NO_DIMENSION;
-    }
-    if 3 < dimension {
-        return common::NO_DIMENSION;
+    if dimension < 1 || 3 < dimension {
+        return Err(Refusal::NoDimension);
     }
     if !are_entries(dimension, d) {
-        return common::NO_ENTRY;
+        return Err(Refusal::NoEntry);
     }
     if !are_zeros(dimension, d) {
-        return common::NOT_ZERO;
+        return Err(Refusal::NotZero);
     }
-    0
+    Ok(())
 }
 
-fn hold(dimension: usize, vector: Vector) -> Kept
-    ensures { result ≡ kept_of dimension vector }
+// A vector as three digits.
+fn digits_of(dimension: usize, vector: Vector) -> Result<Three, Refusal>
+    ensures number { told_number result ≡ digits_number dimension (three (digits_of vector)) }
+    ensures digits { IfOk result (λ d. d ≡ digits_of vector) }
 {
     let digits = Three(shifted(vector.0), shifted(vector.1), shifted(vector.2));
-    Kept {
-        refused: digits_number(dimension, digits),
-        digits,
-    }
+    check_digits(dimension, digits)?;
+    Ok(digits)
 }
 
 // What is known of a vector: its index, its case, its reference and whether it is near.
-pub fn look_up(dimension: usize, vector: Vector) -> LookUp
-    ensures { told_look_up result ≡ look_up dimension vector }
+pub fn look_up(dimension: usize, vector: Vector) -> Result<Known, Refusal>
+    ensures { told result ≡ look_up dimension vector }
 {
-    let h = hold(dimension, vector);
-    if h.refused != 0 {
-        return LookUp::Refused(h.refused);
-    }
-    LookUp::Found(known_of(dimension, h.digits))
+    let digits = digits_of(dimension, vector)?;
+    Ok(known_of(dimension, digits))
 }
 
 fn turn_of(dimension: usize, d: Three) -> Turn
@@ -290,37 +254,22 @@ fn turn_of(dimension: usize, d: Three) -> Turn
 }
 
 // How a vector turns its reference, without what else is known of it.
-pub fn find_turn(dimension: usize, vector: Vector) -> Turning
-    ensures { told_turning result ≡ turning_call dimension vector }
+pub fn find_turn(dimension: usize, vector: Vector) -> Result<Turn, Refusal>
+    ensures { told result ≡ turning_call dimension vector }
 {
-    let h = hold(dimension, vector);
-    if h.refused != 0 {
-        return Turning::Refused(h.refused);
-    }
-    Turning::Found(turn_of(dimension, h.digits))
+    let digits = digits_of(dimension, vector)?;
+    Ok(turn_of(dimension, digits))
 }
 
 // The reference vector with that number.
-pub fn reference_vector(dimension: usize, number: usize) -> Reference
-    ensures { told_reference result ≡ reference_call dimension number }
+pub fn reference_vector(dimension: usize, number: usize) -> Result<Vector, Refusal>
+    ensures { told result ≡ reference_call dimension number }
 {
-    if dimension == 1 {
-        if number < 2 {
-            return Reference::Found(REFERENCES_1[number]);
-        }
-        return Reference::Refused(common::NO_CASE);
-    }
-    if dimension == 2 {
-        if number < 7 {
-            return Reference::Found(REFERENCES_2[number]);
-        }
-        return Reference::Refused(common::NO_CASE);
-    }
-    if dimension == 3 {
-        if number < 16 {
-            return Reference::Found(REFERENCES_3[number]);
-        }
-        return Reference::Refused(common::NO_CASE);
-    }
-    Reference::Refused(common::NO_DIMENSION)
+    let references: &[Vector] = match dimension {
+        1 => &REFERENCES_1,
+        2 => &REFERENCES_2,
+        3 => &REFERENCES_3,
+        _ => return Err(Refusal::NoDimension),
+    };
+    references.get(number).copied().ok_or(Refusal::NoCase)
 }

@@ -5,5 +5,5 @@ use Rattle.follow_all.proofs.follow_vector.Goals as goal
 pub slice_bounds-follow_tables-end : goal.slice_bounds-follow_tables-end
 slice_bounds-follow_tables-end c = sym (length-take-le _ _ (omega arith))
 
-pub slice_bounds-follow_tables-end-in-Found : goal.slice_bounds-follow_tables-end-in-Found
-slice_bounds-follow_tables-end-in-Found c = sym (length-take-le _ _ (omega arith))
+pub slice_bounds-follow_tables-end-in-Ok : goal.slice_bounds-follow_tables-end-in-Ok
+slice_bounds-follow_tables-end-in-Ok c = sym (length-take-le _ _ (omega arith))

@@ -7,14 +7,14 @@ use Rattle.turn_nodes.proofs.image_index.Goals as goal
 
 pub returns-then-dimension-axis : goal.returns-then-dimension-axis
 unfolding image_index
-returns-then-dimension-axis c = let a = c.args in rw (le-ltb a.axis a.dimension c.if-dimension-axis.true)
+returns-then-dimension-axis c = let a = c.args in rw (le-ltb a.axis a.shape.dimension c.if-dimension-axis.true)
 
 pub place_of-requires : goal.place_of-requires
 place_of-requires c = let h = c.requires in (h.shape.dimension_most, h.order, c.if-dimension-axis.false)
 
 pub pick-index-requires : goal.pick-index-requires
 pick-index-requires c =
-    let below = place_below c.args.dimension c.args.turn.order c.args.axis c.requires.order c.if-dimension-axis.false in
+    let below = place_below c.args.shape.dimension c.args.turn.order c.args.axis c.requires.order c.if-dimension-axis.false in
     omega (arith, c.place_of.ensures, below, c.requires.shape.dimension_most)
 
 pub reverse-requires : goal.reverse-requires
@@ -29,5 +29,5 @@ returns c =
       c.is_reversed.ensures,
       c.pick-index.ensures,
       c.place_of.ensures,
-      lt-ltb c.args.axis c.args.dimension c.if-dimension-axis.false,
+      lt-ltb c.args.axis c.args.shape.dimension c.if-dimension-axis.false,
     )

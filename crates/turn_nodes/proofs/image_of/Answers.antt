@@ -17,12 +17,12 @@ image_index-requires-3 c = c.requires
 pub number_of-requires : goal.number_of-requires
 number_of-requires c =
     let a = c.args in
-    image_small a.dimension a.order a.turn a.n c.requires _ _ _ c.image_index.ensures
+    image_small a.shape.dimension a.shape.order a.turn a.n c.requires _ _ _ c.image_index.ensures
     c.image_index-2.ensures c.image_index-3.ensures
 
 pub returns : goal.returns
 returns c =
     let a = c.args in
-    c.number_of.ensures ∙ three_digits a.order a.dimension (image_index a.dimension a.order a.turn a.n) _ _ _
+    c.number_of.ensures ∙ three_digits a.shape.order a.shape.dimension (image_index a.shape.dimension a.shape.order a.turn a.n) _ _ _
     c.requires.shape.dimension_most c.image_index.ensures c.image_index-2.ensures
     c.image_index-3.ensures

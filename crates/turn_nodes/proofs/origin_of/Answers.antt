@@ -23,10 +23,10 @@ origin_index-requires-3 c = let h = c.requires in (h.shape.dimension_most, h.ord
 -- the three indices, by what the reversed ones are
 module _ (c : After-origin_index-3) where
   abbrev index : Three → ℕ → ℕ
-  index back = origin_index c.args.dimension c.args.turn.order back
+  index back = origin_index c.args.shape.dimension c.args.turn.order back
 
   abbrev back : Three
-  back = reversed_all c.args.order c.args.turn c.args.n
+  back = reversed_all c.args.shape.order c.args.turn c.args.n
 
   by : (m r : ℕ) → r ≡ index c.reverse_all-back.result m → r ≡ index back m
   by m r e = e ∙ ap (λ (b : Three). index b m) c.reverse_all-back.ensures
@@ -43,11 +43,11 @@ module _ (c : After-origin_index-3) where
 pub number_of-requires : goal.number_of-requires
 number_of-requires c =
     let a = c.args in
-    origin_small a.dimension a.order a.turn a.n c.requires _ _ _ (first (goal.at.number_of-requires c).After-origin_index-3) (second (goal.at.number_of-requires c).After-origin_index-3) (third (goal.at.number_of-requires c).After-origin_index-3)
+    origin_small a.shape.dimension a.shape.order a.turn a.n c.requires _ _ _ (first (goal.at.number_of-requires c).After-origin_index-3) (second (goal.at.number_of-requires c).After-origin_index-3) (third (goal.at.number_of-requires c).After-origin_index-3)
 
 pub returns : goal.returns
 returns c =
     let a = c.args in
     c.number_of.ensures
-    ∙ three_digits a.order a.dimension (origin_index a.dimension a.turn.order (reversed_all a.order a.turn a.n)) _ _ _
+    ∙ three_digits a.shape.order a.shape.dimension (origin_index a.shape.dimension a.turn.order (reversed_all a.shape.order a.turn a.n)) _ _ _
     c.requires.shape.dimension_most (first (goal.at.returns c).After-origin_index-3) (second (goal.at.returns c).After-origin_index-3) (third (goal.at.returns c).After-origin_index-3)

@@ -5,5 +5,5 @@ use Rattle.turn_nodes.proofs.place_of_other.Goals as goal
 pub returns-then-other-k : goal.returns-then-other-k
 returns-then-other-k c = let a = c.args in rw (eq-eqb a.other a.k c.if-other-k.true)
 
-pub returns : goal.returns
-returns c = let a = c.args in rw (ne_eqb a.other a.k c.if-other-k.false)
+pub returns-else-other-k : goal.returns-else-other-k
+returns-else-other-k c = let a = c.args in rw (ne_eqb a.other a.k c.if-other-k.false)

@@ -7,6 +7,6 @@ pub returns-then-a-first : goal.returns-then-a-first
 unfolding skip
 returns-then-a-first c = let a = c.args in rw (lt-ltb a.a a.first c.if-a-first.true)
 
-pub returns : goal.returns
+pub returns-else-a-first : goal.returns-else-a-first
 unfolding skip
-returns c = let a = c.args in rw (le-ltb a.a a.first c.if-a-first.false)
+returns-else-a-first c = let a = c.args in rw (le-ltb a.a a.first c.if-a-first.false)

@@ -8,19 +8,19 @@ use Rattle.turn_tables.proofs.start_of.Goals as goal
 
 -- one turn: the next start, and its bound
 module _ (c : After-reverse-index) where
-  next : c.loop-axis.start * c.args.order + c.reverse-index.result
-      ≡ from_digits c.args.order (c.loop-axis.axis + 1)
-      (turned_index c.args.dimension c.args.order c.args.case 0)
+  next : c.loop-axis.start * c.args.shape.order + c.reverse-index.result
+      ≡ from_digits c.args.shape.order (c.loop-axis.axis + 1)
+      (turned_index c.args.shape.dimension c.args.shape.order c.args.case 0)
   next =
       let a = c.args in
-      start_next a.dimension a.order a.case c.requires c.loop-axis.axis c.loop-axis.start
+      start_next a.shape.dimension a.shape.order a.case a.shape.taken c.loop-axis.axis c.loop-axis.start
       c.reverse-index.result
       c.is_negative.result c.loop-axis.invariant.1 c.is_negative.ensures c.reverse-index.ensures
 
-  most : c.loop-axis.start * c.args.order + c.reverse-index.result ≤ 4096
+  most : c.loop-axis.start * c.args.shape.order + c.reverse-index.result ≤ 4096
   most =
       let a = c.args in
-      rw next (start_most a.dimension a.order a.case c.requires (c.loop-axis.axis + 1) (omega arith))
+      rw next (start_most a.shape.dimension a.shape.order a.case a.shape.taken (c.loop-axis.axis + 1) (omega arith))
 
 pub loop-axis-init : goal.loop-axis-init
 unfolding from_digits
@@ -32,17 +32,11 @@ overflow_mul-start c = omega (arith, most (goal.at.overflow_mul-start c).After-r
 pub overflow_add-start : goal.overflow_add-start
 overflow_add-start c = omega (arith, most (goal.at.overflow_add-start c).After-reverse-index)
 
-pub overflow_add-axis : goal.overflow_add-axis
-overflow_add-axis c = omega arith
-
-pub loop-axis-smaller : goal.loop-axis-smaller
-loop-axis-smaller c = omega arith
-
 pub loop-axis-preserved : goal.loop-axis-preserved
 loop-axis-preserved c = (omega arith, next (goal.at.loop-axis-preserved c).After-reverse-index)
 
 pub returns : goal.returns
 unfolding turned
 returns c =
-    let done : c.loop-axis.axis ≡ c.args.dimension = omega arith in
+    let done : c.loop-axis.axis ≡ c.args.shape.dimension = omega arith in
     rw done at c.loop-axis.invariant.1

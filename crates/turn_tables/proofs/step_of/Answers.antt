@@ -8,31 +8,31 @@ use Rattle.turn_tables.proofs.step_of.Goals.{After-axis_of-axis, After-power-wei
 use Rattle.turn_tables.proofs.step_of.Goals as goal
 
 pub returns-then-dimension-e : goal.returns-then-dimension-e
-returns-then-dimension-e c = let a = c.args in no_step a.dimension a.order a.case a.e c.if-dimension-e.true
+returns-then-dimension-e c = let a = c.args in no_step a.shape.dimension a.shape.order a.case a.e c.if-dimension-e.true
 
 pub nonzero_rem-case : goal.nonzero_rem-case
-nonzero_rem-case c = rw c.factorial_of.ensures (factorial_pos c.args.dimension)
+nonzero_rem-case c = rw c.factorial_of.ensures (factorial_pos c.args.shape.dimension)
 
 pub axis_of-axis-requires : goal.axis_of-axis-requires
 axis_of-axis-requires c =
-    (c.requires.dimension_most, rw c.factorial_of.ensures (mod-lt c.args.case (factorial_pos c.args.dimension)), omega arith)
+    (c.args.shape.taken.dimension_most, rw c.factorial_of.ensures (mod-lt c.args.case (factorial_pos c.args.shape.dimension)), omega arith)
 
 -- the axis is one of the dimension's
-below : (c : After-axis_of-axis) → c.axis_of-axis.result < c.args.dimension
+below : (c : After-axis_of-axis) → c.axis_of-axis.result < c.args.shape.dimension
 below c =
     let a = c.args in
-    step_axis_below a.dimension a.case a.e c.factorial_of.result c.axis_of-axis.result
+    step_axis_below a.shape.dimension a.case a.e c.factorial_of.result c.axis_of-axis.result
     c.factorial_of.ensures c.axis_of-axis.ensures c.if-dimension-e.false
 
 -- its weight is from 1 to 4096
 weight_least : (c : After-power-weight) → 1 ≤ c.power-weight.result
 weight_least c =
-    rw c.power-weight.ensures (one-le-pow _ c.args.order
-    c.requires.order_least)
+    rw c.power-weight.ensures (one-le-pow _ c.args.shape.order
+    c.args.shape.taken.order_least)
 
 weight_most : (c : After-power-weight) → c.power-weight.result ≤ 4096
 weight_most c = rw c.power-weight.ensures
-    (power_most c.args.order _ c.requires.order_most (omega arith))
+    (power_most c.args.shape.order _ c.args.shape.taken.order_most (omega arith))
 
 pub overflow_sub-dimension-2 : goal.overflow_sub-dimension-2
 overflow_sub-dimension-2 c = omega (arith, below (goal.at.overflow_sub-dimension-2 c).After-axis_of-axis)
@@ -49,13 +49,13 @@ overflow_sub-result-then-is_negative c = omega (arith, weight_most (goal.at.over
 pub returns-then-is_negative : goal.returns-then-is_negative
 returns-then-is_negative c =
     let a = c.args in
-    step_down a.dimension a.order a.case a.e c.factorial_of.result c.axis_of-axis.result c.power-weight.result
+    step_down a.shape.dimension a.shape.order a.case a.e c.factorial_of.result c.axis_of-axis.result c.power-weight.result
     c.factorial_of.ensures c.axis_of-axis.ensures c.power-weight.ensures c.if-dimension-e.false
     c.is_negative.result c.is_negative.ensures c.if-is_negative.true (weight_least (goal.at.returns-then-is_negative c).After-power-weight)
 
 pub returns : goal.returns
 returns c =
     let a = c.args in
-    step_up a.dimension a.order a.case a.e c.factorial_of.result c.axis_of-axis.result c.power-weight.result
+    step_up a.shape.dimension a.shape.order a.case a.e c.factorial_of.result c.axis_of-axis.result c.power-weight.result
     c.factorial_of.ensures c.axis_of-axis.ensures c.power-weight.ensures c.if-dimension-e.false
     c.is_negative.result c.is_negative.ensures c.if-is_negative.false

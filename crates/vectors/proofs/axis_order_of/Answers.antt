@@ -1,4 +1,4 @@
--- `vectors::order_of` meets its contract: each return by the compares that led there. Assumes nothing.
+-- `vectors::axis_order_of` meets its contract: each return by the compares that led there. Assumes nothing.
 use mathlib.Core.Path.{◌∙◌}
 use native.Mathlib.Omega.{arith}
 use borrow.Author.Tests.{lt-ltb, le-ltb}

@@ -1,7 +1,7 @@
--- `turn::follow::index_number` meets its contract: by its test. Assumes nothing.
+-- `turn::follow::check_index` meets its contract: by its test. Assumes nothing.
 use borrow.Author.Tests.{lt-ltb, le-ltb}
 use Rattle.turn.specs.Working.{index_number}
-use Rattle.turn.proofs.follow.index_number.Goals as goal
+use Rattle.turn.proofs.follow.check_index.Goals as goal
 
 pub returns-then-index-order : goal.returns-then-index-order
 unfolding index_number

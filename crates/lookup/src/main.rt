@@ -2,9 +2,6 @@
 // input, and writes a line of text for each to standard output.
 #![tactic(auto)]
 
-ghost use Rattle.std.specs.Prelude.{◌≤◌, length};
-
-use records::Answered;
 use std::io::{Read, Write};
 
 // A block has whole records, so none stands in two.
@@ -13,35 +10,18 @@ const BLOCK: usize = 1024;
 // Room for the text of a block: a line has at most 68 bytes.
 const ROOM: usize = 17408;
 
-// Reads until the block is full, the input ends or a read fails, and returns how many bytes it put at the start of the block.
-fn fill<R: Read>(from: &mut R, block: &mut [u8]) -> usize
-    ensures { result ≤ length block.new }
-{
-    let mut n = 0;
-    while n < block.len() {
-        match from.read(&mut block[n..]) {
-            Err(_) => return n,
-            Ok(0) => return n,
-            Ok(more) => n += more,
-        }
-    }
-    n
-}
-
-// Answers one block, and whether to go on: a block that is not full is the last, and so is one whose answer cannot be written.
+// Answers one block, and whether to go on: a block that is not full is the last, as where a read failed, and so is one whose answer
+// cannot be written.
 // Keeping the loop out of it lets Rattle prove it with no loop.
 fn answer_block<R: Read, W: Write>(from: &mut R, to: &mut W) -> bool {
     let mut input = [0u8; BLOCK];
     let mut output = [0u8; ROOM];
-    let n = fill(from, &mut input);
-    let Answered::Written(written) = records::answer(&input[..n], &mut output) else {
+    let (count, _) = streams::fill(from, &mut input);
+    let Ok(written) = records::answer(&input[..count], &mut output) else {
         return false;
     };
     let is_written = to.write_all(&output[..written]).is_ok();
-    if n < BLOCK {
-        return false;
-    }
-    is_written
+    is_written && count == BLOCK
 }
 
 // No contract can say what is read or written; tests/lookup runs it. A proved loop has to end, and nothing says that the

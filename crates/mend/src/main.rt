@@ -4,15 +4,14 @@
 #![tactic(auto)]
 
 ghost use Rattle.std.specs.Prelude.{◌≤◌, length};
-ghost use Rattle.mend.specs.Filled.{Within};
 
 use mending::Totals;
-use records::Answered;
 use std::env::Env;
 use std::fs;
 use std::fs::{File, OpenOptions};
-use std::io::{Error, ErrorKind, IsTerminal, Read, Write};
+use std::io::{Error, ErrorKind, IsTerminal, Write};
 use std::process::ExitCode;
+use text::Line;
 
 // A block has whole records, so none stands in two.
 const BLOCK: usize = 65536;
@@ -29,72 +28,47 @@ const PAUSE: u64 = 16;
 // The system's number for text that is no text: a name has to be UTF-8.
 const NO_TEXT: i32 = 84;
 
-// How much was read.
+// What could not be read, written or said, and why.
 #[derive(Drop)]
-pub enum Filled {
-    Failed(Error),
-    Bytes(usize),
-}
-
-// What became of a block: more follow, it was the last, or what could not be read, written or said, and why.
-#[derive(Drop)]
-enum Step {
-    More(Totals),
-    Last(Totals),
+enum Fault {
     Unread(Error),
     Unwritten(Error),
     Unsaid(Error),
 }
 
-// Reads until the block is full or the input ends.
-fn fill<R: Read>(from: &mut R, block: &mut [u8]) -> Filled
-    ensures { Within result block.new }
-{
-    let mut n = 0;
-    while n < block.len() {
-        match from.read(&mut block[n..]) {
-            Err(why) => return Filled::Failed(why),
-            Ok(0) => return Filled::Bytes(n),
-            Ok(more) => n += more,
-        }
-    }
-    Filled::Bytes(n)
+// The file that is read, the one that is made, and the name that it goes by until it is whole.
+#[derive(Clone, Copy)]
+struct Names<'a> {
+    from: &'a str,
+    to: &'a str,
+    beside: &'a str,
 }
 
 // Writes what was mended of a block and what is said of it.
-fn deliver(rt: &HostRuntime, to: &mut File, output: &[u8], text: &[u8], is_last: bool) -> Step {
-    if let Err(why) = to.write_all(output) {
-        return Step::Unwritten(why);
-    }
-    if let Err(why) = rt.stdout().write_all(text) {
-        return Step::Unsaid(why);
-    }
-    let totals = mending::tally(text);
-    if is_last {
-        Step::Last(totals)
-    } else {
-        Step::More(totals)
-    }
+fn deliver(rt: &HostRuntime, to: &mut File, output: &[u8], text: &[u8]) -> Result<Totals, Fault> {
+    to.write_all(output).map_err(Fault::Unwritten)?;
+    rt.stdout().write_all(text).map_err(Fault::Unsaid)?;
+    Ok(mending::tally(text))
 }
 
-// Mends the bytes of a block. A block that is not full is the last.
+// Mends the bytes of a block.
 fn mend_bytes(
     rt: &HostRuntime,
     input: &[u8],
     to: &mut File,
     output: &mut [u8],
     text: &mut [u8],
-) -> Step
+) -> Result<Totals, Fault>
     requires { length input.now ≤ length output.old }
 {
     let whole = input.len() / 8 * 8;
-    let Answered::Written(said) = mending::mend(input, &mut output[..whole], text) else {
-        return Step::Unsaid(Error::from(ErrorKind::InvalidInput));
+    let Ok(said) = mending::mend(input, &mut output[..whole], text) else {
+        return Err(Fault::Unsaid(Error::from(ErrorKind::InvalidInput)));
     };
-    deliver(rt, to, &output[..whole], &text[..said], input.len() < BLOCK)
+    deliver(rt, to, &output[..whole], &text[..said])
 }
 
-// Mends one block.
+// Mends one block, and says whether it is the last: one that is not full is.
 fn mend_block(
     rt: &HostRuntime,
     from: &mut File,
@@ -102,36 +76,38 @@ fn mend_block(
     input: &mut [u8],
     output: &mut [u8],
     text: &mut [u8],
-) -> Step
+) -> Result<(Totals, bool), Fault>
     requires { length input.old ≤ length output.old }
 {
-    match fill(from, input) {
-        Filled::Failed(why) => Step::Unread(why),
-        Filled::Bytes(n) => mend_bytes(rt, &input[..n], to, output, text),
-    }
+    let (count, read) = streams::fill(from, input);
+    read.map_err(Fault::Unread)?;
+    let totals = mend_bytes(rt, &input[..count], to, output, text)?;
+    Ok((totals, count < BLOCK))
 }
 
 fn sum(a: Totals, b: Totals) -> Totals {
     Totals {
-        kept: std::num::wrapping_add_usize(a.kept, b.kept),
-        mended: std::num::wrapping_add_usize(a.mended, b.mended),
-        blanked: std::num::wrapping_add_usize(a.blanked, b.blanked),
+        kept: a.kept.wrapping_add(b.kept),
+        mended: a.mended.wrapping_add(b.mended),
+        blanked: a.blanked.wrapping_add(b.blanked),
     }
 }
 
-fn put_total(line: &mut [u8], to: usize, n: usize, word: &[u8]) -> usize {
-    let after_number = text::put_number(line, to, n as u64);
-    text::put(line, after_number, word)
+fn put_total(line: &mut Line, n: usize, word: &[u8]) {
+    line.put_number(n as u64);
+    line.put(word);
 }
 
 // How many records were kept, mended and blanked, to standard error. On a terminal a count stands on one line and is written over.
-fn show(rt: &HostRuntime, totals: &Totals, end: u8) {
-    let mut line = [0u8; 96];
-    let kept = put_total(&mut line, 0, totals.kept, b" kept, ");
-    let mended = put_total(&mut line, kept, totals.mended, b" mended, ");
-    let blanked = put_total(&mut line, mended, totals.blanked, b" blanked");
-    let ended = common::least(text::put_byte(&mut line, blanked, end), 96);
-    let _ = rt.stderr().write_all(&line[..ended]);
+fn show(rt: &HostRuntime, totals: Totals, end: u8) {
+    let mut room = [0u8; 96];
+    let mut line = Line::new(&mut room);
+    put_total(&mut line, totals.kept, b" kept, ");
+    put_total(&mut line, totals.mended, b" mended, ");
+    put_total(&mut line, totals.blanked, b" blanked");
+    line.put_byte(end);
+    let count = line.to.min(line.bytes.len());
+    let _ = rt.stderr().write_all(&line.bytes[..count]);
 }
 
 // Mends block by block to the end of the input, or to a fault. A proved loop has to end, and nothing says that the input does, so the
@@ -143,30 +119,26 @@ fn mend_blocks(
     input: &mut [u8],
     output: &mut [u8],
     text: &mut [u8],
-) -> Step
+) -> Result<Totals, Fault>
     requires { length input.old ≤ length output.old }
 {
     let is_watched = rt.stderr().is_terminal();
-    let mut totals = Totals {
-        kept: 0,
-        mended: 0,
-        blanked: 0,
-    };
+    let mut totals = Totals::default();
     for turn in 0..u64::MAX {
-        match mend_block(rt, from, to, input, output, text) {
-            Step::More(more) => totals = sum(totals, more),
-            Step::Last(more) => return Step::Last(sum(totals, more)),
-            fault => return fault,
+        let (more, is_last) = mend_block(rt, from, to, input, output, text)?;
+        totals = sum(totals, more);
+        if is_last {
+            return Ok(totals);
         }
         if is_watched && turn % PAUSE == PAUSE - 1 {
-            show(rt, &totals, b'\r');
+            show(rt, totals, b'\r');
         }
     }
-    Step::Unread(Error::from(ErrorKind::Other))
+    Err(Fault::Unread(Error::from(ErrorKind::Other)))
 }
 
 // The room to work in, once for all blocks.
-fn mend_all(rt: &HostRuntime, from: &mut File, to: &mut File) -> Step {
+fn mend_all(rt: &HostRuntime, from: &mut File, to: &mut File) -> Result<Totals, Fault> {
     let mut input = [0u8; BLOCK];
     let mut output = [0u8; BLOCK];
     let mut text = [0u8; ROOM];
@@ -174,18 +146,10 @@ fn mend_all(rt: &HostRuntime, from: &mut File, to: &mut File) -> Step {
 }
 
 // What was written has reached the disk, and the mended file takes its name.
-fn finish(
-    rt: &HostRuntime,
-    totals: &Totals,
-    made: File,
-    to: &str,
-    beside: &str,
-) -> Result<(), Error> {
+fn finish(rt: &HostRuntime, made: File, names: &Names) -> Result<(), Error> {
     made.sync_all()?;
     drop(made);
-    fs::rename(rt, beside, to)?;
-    show(rt, totals, b'\n');
-    Ok(())
+    fs::rename(rt, names.beside, names.to)
 }
 
 // Why a call failed, in the system's words.
@@ -208,49 +172,48 @@ fn fail(rt: &HostRuntime, what: &[u8], why: Error) {
     let _ = rt.stderr().write_all(b"\n");
 }
 
-// Mends the file into one that was made, which takes its name.
-fn mend_into(
-    rt: &HostRuntime,
-    from: &str,
-    mut file: File,
-    to: &str,
-    mut made: File,
-    beside: &str,
-) -> bool {
-    match mend_all(rt, &mut file, &mut made) {
-        Step::Last(totals) => match finish(rt, &totals, made, to, beside) {
-            Ok(()) => return true,
-            Err(why) => fail(rt, to.as_bytes(), why),
-        },
-        Step::Unread(why) => fail(rt, from.as_bytes(), why),
-        Step::Unsaid(why) => fail(rt, b"standard output", why),
-        Step::Unwritten(why) => fail(rt, to.as_bytes(), why),
-        Step::More(_) => {}
+// Says what could not be done of a file that has these names.
+fn say(rt: &HostRuntime, names: &Names, fault: Fault) {
+    match fault {
+        Fault::Unread(why) => fail(rt, names.from.as_bytes(), why),
+        Fault::Unsaid(why) => fail(rt, b"standard output", why),
+        Fault::Unwritten(why) => fail(rt, names.to.as_bytes(), why),
     }
-    let _ = fs::remove_file(rt, beside);
-    false
+}
+
+fn open(rt: &HostRuntime, names: &Names) -> Result<(File, File), Fault> {
+    let file = File::open(rt, names.from).map_err(Fault::Unread)?;
+    let made = OpenOptions::new()
+        .write(true)
+        .create_new(true)
+        .open(rt, names.beside)
+        .map_err(Fault::Unwritten)?;
+    Ok((file, made))
+}
+
+// Mends a file into one that was made, which takes its name.
+fn mend_into(rt: &HostRuntime, mut file: File, mut made: File, names: &Names) -> Result<(), Fault> {
+    let totals = mend_all(rt, &mut file, &mut made)?;
+    finish(rt, made, names).map_err(Fault::Unwritten)?;
+    show(rt, totals, b'\n');
+    Ok(())
 }
 
 // Whether all was done.
-fn mend_file(rt: &HostRuntime, from: &str, to: &str, beside: &str) -> bool {
-    let file = match File::open(rt, from) {
-        Ok(file) => file,
-        Err(why) => {
-            fail(rt, from.as_bytes(), why);
+fn mend_file(rt: &HostRuntime, names: &Names) -> bool {
+    let (file, made) = match open(rt, names) {
+        Ok(files) => files,
+        Err(fault) => {
+            say(rt, names, fault);
             return false;
         }
     };
-    match OpenOptions::new()
-        .write(true)
-        .create_new(true)
-        .open(rt, beside)
-    {
-        Ok(made) => mend_into(rt, from, file, to, made, beside),
-        Err(why) => {
-            fail(rt, to.as_bytes(), why);
-            false
-        }
+    if let Err(fault) = mend_into(rt, file, made, names) {
+        say(rt, names, fault);
+        let _ = fs::remove_file(rt, names.beside);
+        return false;
     }
+    true
 }
 
 // A name as text, or a fault that names it.
@@ -264,17 +227,11 @@ fn text_of<'a>(rt: &HostRuntime, name: &'a [u8]) -> Option<&'a str> {
     }
 }
 
-fn mend_named(rt: &HostRuntime, from: &[u8], to: &[u8], beside: &[u8]) -> bool {
-    let Some(from) = text_of(rt, from) else {
-        return false;
-    };
-    let Some(to) = text_of(rt, to) else {
-        return false;
-    };
-    let Some(beside) = text_of(rt, beside) else {
-        return false;
-    };
-    mend_file(rt, from, to, beside)
+fn mend_named(rt: &HostRuntime, from: &[u8], to: &[u8], beside: &[u8]) -> Option<bool> {
+    let from = text_of(rt, from)?;
+    let to = text_of(rt, to)?;
+    let beside = text_of(rt, beside)?;
+    Some(mend_file(rt, &Names { from, to, beside }))
 }
 
 fn main(rt: HostRuntime) -> ExitCode {
@@ -284,12 +241,13 @@ fn main(rt: HostRuntime) -> ExitCode {
     let from_count = rt.arg(1, &mut from).unwrap_or(0);
     let to_count = rt.arg(2, &mut to).unwrap_or(0);
     let beside_count = rt.arg(3, &mut beside).unwrap_or(0);
-    if mend_named(
+    let is_done = mend_named(
         &rt,
         &from[..from_count],
         &to[..to_count],
         &beside[..beside_count],
-    ) {
+    );
+    if is_done.unwrap_or(false) {
         ExitCode::SUCCESS
     } else {
         ExitCode::FAILURE

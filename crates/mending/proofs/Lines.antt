@@ -1,7 +1,7 @@
 -- The text of a file, line by line from a place on, and how long it is at most. Assumes nothing.
 use mathlib.Core.Path.{◌≡◌, refl, ap, ◌∙◌}
 use mathlib.Core.List.{List, [], ◌∷◌, ◌++◌}
-use Prim.Native.Nat.{ℕ, zero, suc, ◌+◌, ◌-◌, ◌*◌, ◌<◌, ◌≤◌}
+use Prim.Native.Nat.{ℕ, zero, suc, ◌+◌, ◌-◌, ◌*◌, ◌/◌, ◌<◌, ◌≤◌}
 use native.Mathlib.Omega.{arith}
 use lib.ListN.{length, drop, length-append, length-drop}
 use lib.Seq.{drop-drop}
@@ -32,6 +32,17 @@ module _ (l : List ℕ) (at : ℕ) (h : at + 8 ≤ length l) where
 
   pub text_record : text (drop at l) ≡ line (verdict (drop at l)) ++ text (drop (at + 8) l)
   text_record = rw (← drop-drop 8 at l) (text_step (drop at l) (omega (arith, length-drop at l)))
+
+-- record i, and then the rest
+module _ (l : List ℕ) (i : ℕ) (h : i < length l / 8) where
+  on : i * 8 + 8 ≡ (i + 1) * 8
+  on = omega arith
+
+  pub file_next : mended_file (drop (i * 8) l) ≡ right (drop (i * 8) l) ++ mended_file (drop ((i + 1) * 8) l)
+  file_next = rw on at (file_record l (i * 8) (omega arith))
+
+  pub text_next : text (drop (i * 8) l) ≡ line (verdict (drop (i * 8) l)) ++ text (drop ((i + 1) * 8) l)
+  text_next = rw on at (text_record l (i * 8) (omega arith))
 
 -- the tail
 no_records : (l : List ℕ) → length l < 8 → whole l ≡ 0

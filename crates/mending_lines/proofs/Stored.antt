@@ -2,49 +2,33 @@
 -- nothing.
 use mathlib.Core.Path.{◌≡◌}
 use mathlib.Core.Bool.{Bool, ◌&&◌}
-use mathlib.Core.List.{List, [], ◌∷◌, ◌++◌}
+use mathlib.Core.List.{List, [], ◌∷◌, ◌++◌, append_assoc}
 use mathlib.Core.Option.{none, some}
-use Prim.Native.Nat.{ℕ, suc, ◌+◌, ◌-◌, ◌≤◌, min}
+use Prim.Native.Nat.{ℕ, ◌+◌, ◌-◌, ◌≤◌, min}
 use native.Mathlib.Omega.{arith}
 use lib.Dec.{eqb}
-use lib.ListN.{length, get_or, drop, set}
+use lib.ListN.{length, get_or, drop}
+use borrow.Rule.Slice.PartMut.{put_mid, Post-is}
 use lib.Seq.{get_or-drop}
 use Rattle.text.specs.Text.{put}
-use Rattle.text.proofs.Putting.{put_then}
+use Rattle.text.proofs.Putting.{put_then, put_fits}
 use Rattle.vectors.specs.declared.Known.{Known}
 use Rattle.vectors.specs.LookUps.{look_up}
 use Rattle.records.specs.Text.{vector}
-use Rattle.mending_lines.specs.Records.{found, right_for, right, kept_line, places}
+use Rattle.mending_lines.specs.Records.{found, right_for, right, places}
 use Rattle.mending_lines.specs.Working.{place_if, changed_later, no_place}
 use Rattle.mending_lines.proofs.Lines.{none_later, places_later}
 
 module _ (l : List ℕ) (to : ℕ) where
-  one : to + 1 ≡ suc to
-  one = omega arith
-
-  two : to + 2 ≡ suc (suc to)
-  two = omega arith
-
-  three : to + 3 ≡ suc (suc (suc to))
-  three = omega arith
-
-  four : to + 4 ≡ suc (suc (suc (suc to)))
-  four = omega arith
-
   pub put_nothing : (to, l) ≡ put to [] l
   put_nothing = let e : to + min 0 (length l - to) ≡ to = omega arith in rw e
 
-  pub put_four : (a b c d : ℕ) → to + 4 ≤ length l →
-      (to + 4, set (set (set (set l to a) (to + 1) b) (to + 2) c) (to + 3) d) ≡ put to (a ∷ b ∷ c ∷ d ∷ []) l
-  put_four a b c d h =
-      let e : to + min 4 (length l - to) ≡ to + 4 = omega arith in
-      rw (e, one, two, three)
-
-  pub put_five : to + 5 ≤ length l →
-      (to + 5, set (set (set (set (set l to 107) (to + 1) 101) (to + 2) 112) (to + 3) 116) (to + 4) 10) ≡ put to kept_line l
-  put_five h =
-      let e : to + min 5 (length l - to) ≡ to + 5 = omega arith in
-      rw (e, one, two, three, four)
+  -- a word that is copied to a place where there is room
+  pub put_whole : (e : ℕ) (w : List ℕ) {part : List ℕ} → e ≡ to + length w → e ≤ length l → part ≡ w →
+      (e, put_mid to (e - to) l part) ≡ put to w l
+  put_whole e w {part} end h same =
+      let fits : to + length w ≤ length l = omega arith in
+      rw (put_fits to w l fits, Post-is to e l (omega arith), same, end, append_assoc)
 
 -- A RECORD AT A PLACE
 

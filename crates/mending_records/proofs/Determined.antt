@@ -5,14 +5,16 @@ use Prim.Native.Nat.{ℕ, ◌+◌}
 use lib.ListN.{get_or, drop}
 use Rattle.common.proofs.Determined.{coincide}
 use Rattle.text.specs.Text.{put}
-use Rattle.vectors.specs.declared.LookUp.{LookUp}
-use Rattle.vectors.specs.LookUps.{told_look_up}
+use Rattle.std.specs.Prelude.{Result}
+use Rattle.common.specs.Numbers.{told}
+use Rattle.common.specs.declared.refusals.Refusal.{Refusal}
+use Rattle.vectors.specs.declared.Known.{Known}
 use Rattle.vectors.proofs.Determined.{look_up_determined}
 use Rattle.records.specs.Text.{vector}
 use Rattle.mending_lines.specs.Records.{found, right, verdict, line}
 
-look_determined : (input : List ℕ) (at : ℕ) (r r' : LookUp) → told_look_up r ≡ found (drop at input) → told_look_up r' ≡ found (drop at input) →
-    r ≡ r'
+look_determined : (input : List ℕ) (at : ℕ) (r r' : Result Known Refusal) → told r ≡ found (drop at input) →
+    told r' ≡ found (drop at input) → r ≡ r'
 unfolding found
 look_determined input at =
     let l = drop at input in look_up_determined (get_or l 0 0) (vector (get_or l 1 0) (get_or l 2 0) (get_or l 3 0))

@@ -2,97 +2,107 @@
 // dimension and three signed bytes.
 #![tactic(auto)]
 
-ghost use Rattle.std.specs.Prelude.{◌≡◌, leb, length};
+ghost use Rattle.std.specs.Prelude.{◌≡◌, leb, length, get_or};
+ghost use Rattle.common.specs.Numbers.{told};
 ghost use Rattle.text.specs.Text.{put as Text·put};
-ghost use Rattle.vectors.specs.LookUps.{told_look_up, look_up};
-ghost use Rattle.records.specs.Text.{vector, known_line, line, record_line, told_answer, answer_call};
+ghost use Rattle.vectors.specs.LookUps.{look_up};
+ghost use Rattle.records.specs.Text.{vector, known_line, line as line_of, short, record_line, answer_call};
 ghost use Rattle.records.specs.Text.{signed as Text·signed, text as Text·text};
 
-use vectors::{Known, LookUp, Vector};
+use common::Refusal;
+use text::Line;
+use vectors::{Known, Vector};
 
-// How many bytes were written, or the number of a refusal.
-#[derive(Drop)]
-pub enum Answered {
-    Refused(u8),
-    Written(usize),
-}
-
-// Writes the answer to the records of `input` over the start of `output`. Too little room for it is refused with 7.
-pub fn answer(input: &[u8], output: &mut [u8]) -> Answered
-    ensures { (told_answer result, output.new) ≡ answer_call input.now output.old }
+// Writes the answer to the records of `input` over the start of `output`, and answers how many bytes it wrote. Too little room for it
+// is refused with 7.
+pub fn answer(input: &[u8], output: &mut [u8]) -> Result<usize, Refusal>
+    ensures { (told result, output.new) ≡ answer_call input.now output.old }
 {
     if !fits(input, output.len()) {
-        return Answered::Refused(common::WRONG_LENGTH);
+        return Err(Refusal::WrongLength);
     }
-    Answered::Written(put_records(output, input))
+    Ok(put_text(output, input))
 }
 
 // The room of the longest line: three numbers of twenty digits and "near".
 const ROOM: usize = 68;
 
-// The text has no more bytes than there is room for. Each line is put together to be measured, and what is left of the room
-// is counted, since the bytes of all lines together might not fit a number.
+// The text has no more bytes than there is room for. What is left of the room is counted, since the bytes of all lines together might
+// not fit a number.
 fn fits(input: &[u8], room: usize) -> bool
     ensures { result ≡ leb (length (Text·text input.now)) room }
 {
-    let mut line = [0u8; ROOM];
+    let (records, tail) = input.as_chunks::<4>();
     let mut left = room;
-    let mut at = 0;
-    while input.len() - at >= 4 {
-        let size = put_record(
-            &mut line,
-            0,
-            input[at],
-            input[at + 1],
-            input[at + 2],
-            input[at + 3],
-        );
+    for record in records {
+        let size = size_of(record);
         if left < size {
             return false;
         }
         left -= size;
-        at += 4;
     }
-    if at < input.len() {
-        return text::put_counted(&mut line, 0, b"short", (input.len() - at) as u64) <= left;
+    if !tail.is_empty() {
+        return short_size(tail.len()) <= left;
     }
     true
 }
 
-// The text, from the output's first byte on.
-fn put_records(output: &mut [u8], input: &[u8]) -> usize
+// How many bytes the line of a record has: it is put together to be measured.
+fn size_of(bytes: &[u8; 4]) -> usize
+    ensures { result ≡ length (record_line (get_or bytes.now 0 0) (get_or bytes.now 1 0) (get_or bytes.now 2 0) (get_or bytes.now 3 0)) }
+{
+    let mut room = [0u8; ROOM];
+    let mut line = Line::new(&mut room);
+    put_record(&mut line, bytes);
+    line.to
+}
+
+// The same of the line of a record that is not finished.
+fn short_size(count: usize) -> usize
+    ensures { result ≡ length (short count) }
+{
+    let mut room = [0u8; ROOM];
+    let mut line = Line::new(&mut room);
+    line.put_counted(b"short", count as u64);
+    line.to
+}
+
+// The text, from the output's first byte on, and how many bytes it has.
+fn put_text(output: &mut [u8], input: &[u8]) -> usize
     ensures { (result, output.new) ≡ Text·put 0 (Text·text input.now) output.old }
 {
-    let mut at = 0;
-    let mut to = 0;
-    while 4 <= input.len() - at {
-        to = put_record(
-            output,
-            to,
-            input[at],
-            input[at + 1],
-            input[at + 2],
-            input[at + 3],
-        );
-        at += 4;
+    let mut line = Line::new(output);
+    put_records(&mut line, input);
+    line.to
+}
+
+fn put_records(line: &mut Line, input: &[u8])
+    ensures same { line.new.bytes.ghost_name ≡ line.old.bytes.ghost_name }
+    ensures put { (line.new.to, line.new.bytes.now) ≡ Text·put line.old.to (Text·text input.now) line.old.bytes.now }
+{
+    let (records, rest) = input.as_chunks::<4>();
+    for record in records {
+        put_record(line, record);
     }
-    if at < input.len() {
-        return text::put_counted(output, to, b"short", (input.len() - at) as u64);
+    if !rest.is_empty() {
+        line.put_counted(b"short", rest.len() as u64);
     }
-    to
 }
 
 // The line of a record.
-fn put_record(output: &mut [u8], to: usize, dimension: u8, x: u8, y: u8, z: u8) -> usize
-    ensures { (result, output.new) ≡ Text·put to (record_line dimension x y z) output.old }
+fn put_record(line: &mut Line, bytes: &[u8; 4])
+    ensures same { line.new.bytes.ghost_name ≡ line.old.bytes.ghost_name }
+    ensures put { (line.new.to, line.new.bytes.now) ≡ Text·put line.old.to
+        (record_line (get_or bytes.now 0 0) (get_or bytes.now 1 0) (get_or bytes.now 2 0) (get_or bytes.now 3 0))
+        line.old.bytes.now }
 {
-    let found = look_up_bytes(dimension, x, y, z);
-    put_line(output, to, found)
+    let [dimension, x, y, z] = *bytes;
+    put_line(line, look_up_bytes(dimension, x, y, z));
 }
 
 // What is known of the vector that three signed bytes are, in the dimension that an unsigned one is.
-pub fn look_up_bytes(dimension: u8, x: u8, y: u8, z: u8) -> LookUp
-    ensures { told_look_up result ≡ look_up dimension (vector x y z) }
+pub fn look_up_bytes(dimension: u8, x: u8, y: u8, z: u8) -> Result<Known, Refusal>
+    ensures { told result ≡ look_up dimension (vector x y z) }
 {
     vectors::look_up(dimension as usize, Vector(signed(x), signed(y), signed(z)))
 }
@@ -104,24 +114,26 @@ fn signed(b: u8) -> i32
     if b < 128 { b as i32 } else { b as i32 - 256 }
 }
 
-fn put_line(output: &mut [u8], to: usize, found: LookUp) -> usize
-    ensures { (result, output.new) ≡ Text·put to (line (told_look_up found)) output.old }
+fn put_line(line: &mut Line, found: Result<Known, Refusal>)
+    ensures same { line.new.bytes.ghost_name ≡ line.old.bytes.ghost_name }
+    ensures put { (line.new.to, line.new.bytes.now) ≡ Text·put line.old.to (line_of (told found)) line.old.bytes.now }
 {
     match found {
-        LookUp::Refused(number) => text::put_counted(output, to, b"refused", number as u64),
-        LookUp::Found(known) => put_known(output, to, known),
+        Ok(known) => put_known(line, known),
+        Err(refusal) => line.put_counted(b"refused", refusal.number() as u64),
     }
 }
 
-fn put_known(output: &mut [u8], to: usize, known: Known) -> usize
-    ensures { (result, output.new) ≡ Text·put to (known_line known) output.old }
+fn put_known(line: &mut Line, known: Known)
+    ensures same { line.new.bytes.ghost_name ≡ line.old.bytes.ghost_name }
+    ensures put { (line.new.to, line.new.bytes.now) ≡ Text·put line.old.to (known_line known) line.old.bytes.now }
 {
-    let after_index = text::put_number(output, to, known.index as u64);
-    let after_case = text::put_next(output, after_index, known.case as u64);
-    let after_reference = text::put_next(output, after_case, known.reference as u64);
+    line.put_number(known.index as u64);
+    line.put_next(known.case as u64);
+    line.put_next(known.reference as u64);
     if known.near {
-        text::put(output, after_reference, b" near\n")
+        line.put(b" near\n");
     } else {
-        text::put(output, after_reference, b" far\n")
+        line.put(b" far\n");
     }
 }

@@ -1,87 +1,101 @@
-// Text that is put together in lent memory. Each function that puts something answers the place past it; what has no room is
-// left out, and the place is then the line's end.
+// Text that is put together in lent memory. What has no room is left out; the place where a line goes on counts it none the less as far
+// as the line's end.
 #![tactic(auto)]
 
-ghost use Rattle.std.specs.Prelude.{◌≡◌, [], ◌∷◌, ◌++◌, ◌-◌};
+ghost use Rattle.std.specs.Prelude.{◌≡◌, [], ◌∷◌, ◌++◌};
 ghost use Rattle.text.specs.Text.{decimal, spaced, counted, refused_word, unknown_word, Ended};
 ghost use Rattle.text.specs.Text.{put as Text·put};
 
-// How many bytes of a line lie from a place on.
-fn room_of(length: usize, to: usize) -> usize
-    ensures { result ≡ length - to }
-{
-    if to < length { length - to } else { 0 }
+// A line that grows in lent memory: its next byte goes to place `to`.
+#[derive(Drop)]
+pub struct Line<'a> {
+    pub bytes: &'a mut [u8],
+    pub to: usize,
 }
 
-pub fn put_byte(line: &mut [u8], to: usize, b: u8) -> usize
-    ensures { (result, line.new) ≡ Text·put to (b ∷ []) line.old }
-{
-    if to < line.len() {
-        line[to] = b;
-        return to + 1;
+impl<'a> Line<'a> {
+    // A line that begins with the memory.
+    pub fn new(bytes: &'a mut [u8]) -> Line<'a>
+        ensures same { result.bytes.ghost_name ≡ bytes.entry.ghost_name }
+        ensures bytes { result.bytes.now ≡ bytes.old }
+        ensures to { result.to ≡ 0 }
+    {
+        Line { bytes, to: 0 }
     }
-    to
-}
 
-pub fn put(line: &mut [u8], to: usize, word: &[u8]) -> usize
-    ensures { (result, line.new) ≡ Text·put to word.now line.old }
-{
-    let count = common::least(word.len(), room_of(line.len(), to));
-    let mut i = 0;
-    while i < count {
-        line[to + i] = word[i];
-        i += 1;
+    pub fn put_byte(&mut self, b: u8)
+        ensures same { self.new.bytes.ghost_name ≡ self.old.bytes.ghost_name }
+        ensures put { (self.new.to, self.new.bytes.now) ≡ Text·put self.old.to (b ∷ []) self.old.bytes.now }
+    {
+        if self.to < self.bytes.len() {
+            self.bytes[self.to] = b;
+            self.to += 1;
+        }
     }
-    to + count
-}
 
-// A number in decimal.
-pub fn put_number(line: &mut [u8], to: usize, n: u64) -> usize
-    ensures { (result, line.new) ≡ Text·put to (decimal n) line.old }
-{
-    let mut digits = [0u8; 20];
-    let count = io::decimal(n, &mut digits);
-    put(line, to, &digits[..count])
-}
+    pub fn put(&mut self, word: &[u8])
+        ensures same { self.new.bytes.ghost_name ≡ self.old.bytes.ghost_name }
+        ensures put { (self.new.to, self.new.bytes.now) ≡ Text·put self.old.to word.now self.old.bytes.now }
+    {
+        let from = self.to.min(self.bytes.len());
+        let count = word.len().min(self.bytes.len() - from);
+        self.bytes[from..from + count].copy_from_slice(&word[..count]);
+        self.to += count;
+    }
 
-// A space and a number.
-pub fn put_next(line: &mut [u8], to: usize, n: u64) -> usize
-    ensures { (result, line.new) ≡ Text·put to (spaced n) line.old }
-{
-    let after_space = put_byte(line, to, b' ');
-    put_number(line, after_space, n)
-}
+    // A number in decimal.
+    pub fn put_number(&mut self, n: u64)
+        ensures same { self.new.bytes.ghost_name ≡ self.old.bytes.ghost_name }
+        ensures put { (self.new.to, self.new.bytes.now) ≡ Text·put self.old.to (decimal n) self.old.bytes.now }
+    {
+        let mut digits = [0u8; 20];
+        let count = io::decimal(n, &mut digits);
+        self.put(&digits[..count]);
+    }
 
-// A word, a space, a number and the line's end.
-pub fn put_counted(line: &mut [u8], to: usize, word: &[u8], n: u64) -> usize
-    ensures { (result, line.new) ≡ Text·put to (counted word.now n) line.old }
-{
-    let after_word = put(line, to, word);
-    let after_number = put_next(line, after_word, n);
-    put_byte(line, after_number, b'\n')
-}
+    // A space and a number.
+    pub fn put_next(&mut self, n: u64)
+        ensures same { self.new.bytes.ghost_name ≡ self.old.bytes.ghost_name }
+        ensures put { (self.new.to, self.new.bytes.now) ≡ Text·put self.old.to (spaced n) self.old.bytes.now }
+    {
+        self.put_byte(b' ');
+        self.put_number(n);
+    }
 
-// The number that a call refused with.
-pub fn put_refusal(line: &mut [u8], to: usize, refusal: u8) -> usize
-    ensures { (result, line.new) ≡ Text·put to (refused_word ++ spaced refusal) line.old }
-{
-    let after_word = put(line, to, b" refused");
-    put_next(line, after_word, refusal as u64)
-}
+    // A word, a space, a number and the line's end.
+    pub fn put_counted(&mut self, word: &[u8], n: u64)
+        ensures same { self.new.bytes.ghost_name ≡ self.old.bytes.ghost_name }
+        ensures put { (self.new.to, self.new.bytes.now) ≡ Text·put self.old.to (counted word.now n) self.old.bytes.now }
+    {
+        self.put(word);
+        self.put_next(n);
+        self.put_byte(b'\n');
+    }
 
-// The line of a record or a case whose kind a program does not know.
-pub fn put_unknown(line: &mut [u8], kind: u8) -> usize
-    ensures { (result, line.new) ≡ Text·put 0 (unknown_word ++ spaced kind) line.old }
-{
-    let after_word = put(line, 0, b"unknown kind");
-    put_next(line, after_word, kind as u64)
-}
+    // The number that a call refused with.
+    pub fn put_refusal(&mut self, refusal: u8)
+        ensures same { self.new.bytes.ghost_name ≡ self.old.bytes.ghost_name }
+        ensures put { (self.new.to, self.new.bytes.now) ≡ Text·put self.old.to (refused_word ++ spaced refusal) self.old.bytes.now }
+    {
+        self.put(b" refused");
+        self.put_next(refusal as u64);
+    }
 
-// Ends the line, of which the next place is `to`, and answers how many bytes it has.
-pub fn end_line(line: &mut [u8], to: usize) -> usize
-    ensures { Ended to line.old line.new result }
-{
-    let length = line.len();
-    let next = put_byte(line, to, b'\n');
-    common::least(next, length)
+    // What is said of a record or a case whose kind a program does not know.
+    pub fn put_unknown(&mut self, kind: u8)
+        ensures same { self.new.bytes.ghost_name ≡ self.old.bytes.ghost_name }
+        ensures put { (self.new.to, self.new.bytes.now) ≡ Text·put self.old.to (unknown_word ++ spaced kind) self.old.bytes.now }
+    {
+        self.put(b"unknown kind");
+        self.put_next(kind as u64);
+    }
+
+    // Ends the line, and answers how many bytes it has.
+    pub fn end(&mut self) -> usize
+        ensures same { self.new.bytes.ghost_name ≡ self.old.bytes.ghost_name }
+        ensures ended { Ended self.old.to self.old.bytes.now self.new.bytes.now result }
+    {
+        self.put(b"\n");
+        self.to.min(self.bytes.len())
+    }
 }

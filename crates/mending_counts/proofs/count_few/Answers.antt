@@ -1,29 +1,22 @@
--- `mending_counts::count_few` meets its contract. The loop's invariant: the bytes before `i` are counted. The measure is what is left of
--- the text. Assumes nothing.
+-- `mending_counts::count_few` meets its contract. The loop's invariant: the bytes before this one are counted. Assumes nothing.
 use native.Mathlib.Omega.{arith}
-use Rattle.mending_counts.specs.Occurrences.{occurs}
-use Rattle.mending_counts.proofs.Occurring.{occurs_same, occurs_other, occurs_done}
 use borrow.Author.Rules.{rules}
+use Rattle.mending_counts.specs.Occurrences.{occurs}
+use Rattle.mending_counts.proofs.Occurring.{occurs_same, occurs_other}
+use Rattle.mending_counts.proofs.count_few.Goals.{then-x-letter, else-x-letter}
 use Rattle.mending_counts.proofs.count_few.Goals as goal
-use Rattle.mending_counts.proofs.count_few.Goals.{then-text-i, else-text-i}
 
-pub loop-i-init : goal.loop-i-init
+pub loop-x-init : goal.loop-x-init
 unfolding occurs
-loop-i-init c = search rules
+loop-x-init c = search rules
 
-pub loop-i-preserved : goal.loop-i-preserved
-loop-i-preserved c =
-    let l = c.loop-i in
+pub loop-x-preserved : goal.loop-x-preserved
+loop-x-preserved c =
+    let l = c.loop-x in
     let a = c.args in
-    elim c.if-text-i.branch [
-      | then-text-i w ↦
-          (omega arith, omega arith, rw w.count-is (occurs_same a.letter a.text.now l.i (omega arith) l.invariant.2 w.if-text-i.true))
-      | else-text-i w ↦
-          (omega arith, omega arith, rw w.count-is (occurs_other a.letter a.text.now l.i (omega arith) l.invariant.2 w.if-text-i.false))
+    elim c.if-x-letter.branch [
+      | then-x-letter w ↦
+          (omega arith, rw w.count-is (occurs_same a.letter a.part.now l.x-index (omega arith) l.invariant.1 w.if-x-letter.true))
+      | else-x-letter w ↦
+          (omega arith, rw w.count-is (occurs_other a.letter a.part.now l.x-index (omega arith) l.invariant.1 w.if-x-letter.false))
     ]
-
-pub returns : goal.returns
-returns c =
-    let l = c.loop-i in
-    let a = c.args in
-    occurs_done a.letter a.text.now l.i l.count (omega arith) l.invariant.2

@@ -1,30 +1,33 @@
--- `mending_counts::count_of` meets its contract. The loop's invariant: the bytes before `i` are counted. The measure is what is left of the
--- text. Assumes nothing.
-use mathlib.Core.Path.{◌∙◌}
-use Prim.Native.Nat.{◌+◌}
-use native.Mathlib.Omega.{arith}
-use lib.ListN.{take}
-use lib.Seq.{length-take-le}
-use Rattle.mending_counts.specs.Occurrences.{occurs}
-use Rattle.mending_counts.proofs.Occurring.{occurs_part, occurs_done, occurs_most}
+-- `mending_counts::count_of` meets its contract. The loop's invariant: the parts before this one are counted. Assumes nothing.
+use mathlib.Core.Path.{◌≡◌}
+use mathlib.Core.List.{[]}
 use borrow.Author.Rules.{rules}
+use native.Mathlib.Omega.{arith}
+use lib.ListN.{get_or}
+use Rattle.mending_counts.specs.Occurrences.{occurs}
+use Rattle.mending_counts.proofs.Occurring.{part_length, occurs_part, occurs_rest, occurs_most}
 use Rattle.mending_counts.proofs.count_of.Goals as goal
 
-pub loop-i-init : goal.loop-i-init
+pub loop-part-init : goal.loop-part-init
 unfolding occurs
-loop-i-init c = search rules
+loop-part-init c = search rules
 
-pub loop-i-preserved : goal.loop-i-preserved
-loop-i-preserved c =
-    let l = c.loop-i in
+pub loop-part-preserved : goal.loop-part-preserved
+loop-part-preserved c =
+    let l = c.loop-part in
     let a = c.args in
-    let end = l.i + c.least.result in
-    let all = occurs_part a.letter a.text.now l.i end (omega arith) l.invariant.2 (c.widened-count.ensures ∙ c.count_few.ensures) in
-    let most = occurs_most a.letter (take end a.text.now) in
-    (omega arith, omega (arith, length-take-le end a.text.now (omega arith)), all)
+    let parts = c.as_chunks.result.0.now in
+    let e = c.as_chunks.ensures in
+    let here : c.from-count.result ≡ occurs a.letter (get_or parts l.part-index []) = search rules in
+    let long = part_length a.letter a.text.now parts e.front e.front_len l.part-index c.loop-part-test.true in
+    let most = occurs_most a.letter (get_or parts l.part-index []) in
+    (omega arith, occurs_part a.letter a.text.now parts e.front e.front_len l.part-index c.loop-part-test.true l.invariant.1 here)
 
 pub returns : goal.returns
 returns c =
-    let l = c.loop-i in
+    let l = c.loop-part in
     let a = c.args in
-    occurs_done a.letter a.text.now l.i l.count (omega arith) l.invariant.2
+    let e = c.as_chunks.ensures in
+    let last : c.from.result ≡ occurs a.letter c.as_chunks.result.1.now = search rules in
+    occurs_rest a.letter a.text.now c.as_chunks.result.0.now e.front e.front_len l.part-index c.as_chunks.result.1.now (omega arith) e.back
+    l.invariant.1 last

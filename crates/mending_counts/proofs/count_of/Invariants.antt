@@ -1,14 +1,9 @@
--- `mending_counts::count_of` meets its contract. The loop's invariant: the bytes before `i` are counted. The measure is what is left of the
--- text. Assumes nothing.
+-- `mending_counts::count_of` meets its contract. The loop's invariant: the parts before this one are counted. Assumes nothing.
 use mathlib.Core.Path.{◌≡◌}
-use Prim.Native.Nat.{◌-◌, ◌≤◌}
-use lib.ListN.{length, take}
+use Prim.Native.Nat.{◌*◌, ◌≤◌}
+use lib.ListN.{take}
 use Rattle.mending_counts.specs.Occurrences.{occurs}
 use Rattle.mending_counts.proofs.count_of.Given as goal
 
-abbrev pub invariant-loop-i : goal.invariant-loop-i
-invariant-loop-i l =
-    (l.i ≤ length l.text) × (l.count ≤ l.i) × (l.count ≡ occurs l.letter (take l.i l.text))
-
-abbrev pub decreases-loop-i : goal.decreases-loop-i
-decreases-loop-i l = length l.text - l.i
+abbrev pub invariant-loop-part : goal.invariant-loop-part
+invariant-loop-part l = (l.count ≤ 240 * l.part-index) × (l.count ≡ occurs l.letter (take (240 * l.part-index) l.text))

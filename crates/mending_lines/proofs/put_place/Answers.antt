@@ -7,14 +7,16 @@ use Rattle.mending_lines.proofs.Lines.{place_same, place_other}
 use Rattle.mending_lines.proofs.Stored.{put_nothing}
 use Rattle.mending_lines.proofs.put_place.Goals as goal
 
-pub returns-then-is_same : goal.returns-then-is_same
-returns-then-is_same c =
+pub returns-then-not-is_same-clause-put : goal.returns-then-not-is_same-clause-put
+returns-then-not-is_same-clause-put c =
     let a = c.args in
-    put_nothing a.text.now a.to ∙ ap (λ (w : List ℕ). put a.to w a.text.now)
-    (sym (place_same a.place a.old a.new (sym c.is_same.ensures ∙ c.if-is_same.true)))
+    let l = a.line.now in
+    c.put_next.ensures.put ∙ ap (λ (w : List ℕ). put l.to w l.bytes.now)
+    (sym (place_other a.place a.old a.new (sym c.is_same.ensures ∙ c.if-not-is_same.true)))
 
-pub returns : goal.returns
-returns c =
+pub returns-else-not-is_same-clause-put : goal.returns-else-not-is_same-clause-put
+returns-else-not-is_same-clause-put c =
     let a = c.args in
-    c.put_next.ensures ∙ ap (λ (w : List ℕ). put a.to w a.text.now)
-    (sym (place_other a.place a.old a.new (sym c.is_same.ensures ∙ c.if-is_same.false)))
+    let l = a.line.now in
+    put_nothing l.bytes.now l.to ∙ ap (λ (w : List ℕ). put l.to w l.bytes.now)
+    (sym (place_same a.place a.old a.new (sym c.is_same.ensures ∙ c.if-not-is_same.false)))

@@ -2,8 +2,8 @@
 use Rattle.mending_lines.proofs.Stored.{four_places}
 use Rattle.mending_lines.proofs.put_places.Goals as goal
 
-pub returns : goal.returns
-returns c =
+pub returns-clause-put : goal.returns-clause-put
+returns-clause-put c =
     let a = c.args in
-    four_places a.input.now a.at a.known a.to a.text.now
-    c.put_place-after_case.ensures c.put_place-after_reference.ensures c.put_place-after_zero.ensures c.put_place.ensures
+    four_places a.input.now a.at a.known a.line.now.to a.line.now.bytes.now
+    c.put_place.ensures.put c.put_place-2.ensures.put c.put_place-3.ensures.put c.put_place-4.ensures.put

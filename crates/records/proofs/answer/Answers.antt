@@ -11,5 +11,4 @@ returns-then-not-fits c =
 pub returns : goal.returns
 returns c =
     let a = c.args in
-    answer_written a.input.now a.output.now _ _ (sym (c.if-not-fits.false) ∙ c.fits.ensures)
-    c.put_records.ensures
+    answer_written a.input.now a.output.now _ _ (sym (c.if-not-fits.false) ∙ c.fits.ensures) c.put_text.ensures

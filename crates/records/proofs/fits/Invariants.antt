@@ -1,15 +1,10 @@
--- `records::fits` meets its contract. The loop's invariant: what is left of the room is what is left after the lines before `at`. The
--- measure is what is left of the input. Assumes nothing.
-use mathlib.Core.Path.{◌≡◌}
-use Prim.Native.Nat.{◌-◌, ◌≤◌}
-use lib.ListN.{length, drop}
+-- `records::fits` meets its contract. The loop's invariant: what is left of the room is what is left after the lines of the records
+-- before this one. Assumes nothing.
+use Prim.Native.Nat.{◌*◌}
+use lib.ListN.{drop}
 use Rattle.records.specs.Text.{text}
 use Rattle.records.proofs.Answers.{Measured}
 use Rattle.records.proofs.fits.Given as goal
 
-abbrev pub invariant-loop-at : goal.invariant-loop-at
-invariant-loop-at l =
-    (l.at ≤ length l.input) × (length l.line ≡ 68) × Measured (text l.input) l.room l.left (text (drop l.at l.input))
-
-abbrev pub decreases-loop-at : goal.decreases-loop-at
-decreases-loop-at l = length l.input - l.at
+abbrev pub invariant-loop-record : goal.invariant-loop-record
+invariant-loop-record l = Measured (text l.input) l.room l.left (text (drop (4 * l.record-index) l.input))

@@ -1,21 +1,22 @@
 -- `records::put_line` meets its contract: each arm puts the line of its own variant. Assumes nothing.
 use mathlib.Core.Path.{sym, ap, ◌∙◌}
+use Rattle.std.specs.Prelude.{Result}
+use Rattle.common.specs.Numbers.{told}
+use Rattle.common.specs.declared.refusals.Refusal.{Refusal}
 use Rattle.text.specs.Text.{put}
-use Rattle.vectors.specs.declared.LookUp.{LookUp}
-use Rattle.vectors.specs.LookUps.{told_look_up}
+use Rattle.vectors.specs.declared.Known.{Known}
 use Rattle.records.specs.Text.{line}
 use Rattle.records.proofs.put_line.Goals as goal
 
-pub returns-in-Refused : goal.returns-in-Refused
+pub returns-in-Ok-clause-put : goal.returns-in-Ok-clause-put
 unfolding line
-returns-in-Refused c =
-    let a = c.args in
-    c.put_counted.ensures ∙ ap (λ (f : LookUp). put a.to (line (told_look_up f)) a.output.now)
-    (sym c.in-Refused.is)
+returns-in-Ok-clause-put c =
+    let l = c.args.line.now in
+    c.put_known.ensures.put ∙ ap (λ (f : Result Known Refusal). put l.to (line (told f)) l.bytes.now) (sym c.in-Ok.is)
 
-pub returns-in-Found : goal.returns-in-Found
+pub returns-in-Err-clause-put : goal.returns-in-Err-clause-put
 unfolding line
-returns-in-Found c =
-    let a = c.args in
-    c.put_known.ensures ∙ ap (λ (f : LookUp). put a.to (line (told_look_up f)) a.output.now)
-    (sym c.in-Found.is)
+returns-in-Err-clause-put c =
+    let l = c.args.line.now in
+    rw c.number.ensures at c.put_counted.ensures.put ∙
+    ap (λ (f : Result Known Refusal). put l.to (line (told f)) l.bytes.now) (sym c.in-Err.is)

@@ -4,8 +4,8 @@ use Rattle.text.specs.Text.{put}
 use Rattle.records.specs.Text.{line, record_line}
 use Rattle.records.proofs.put_record.Goals as goal
 
-pub returns : goal.returns
+pub returns-clause-put : goal.returns-clause-put
 unfolding record_line
-returns c =
-    let a = c.args in
-    c.put_line.ensures ∙ ap (λ w. put a.to (line w) a.output.now) c.look_up_bytes-found.ensures
+returns-clause-put c =
+    let l = c.args.line.now in
+    c.put_line.ensures.put ∙ ap (λ w. put l.to (line w) l.bytes.now) c.look_up_bytes.ensures

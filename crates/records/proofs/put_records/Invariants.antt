@@ -1,15 +1,14 @@
--- `records::put_records` meets its contract. The loop's invariant: the text of the records before `at` is put. The measure is what is left
--- of the input. Assumes nothing.
+-- `records::put_records` meets its contract. The loop's invariant: the text of the records before this one is put. Assumes nothing.
 use mathlib.Core.Path.{◌≡◌}
-use Prim.Native.Nat.{◌-◌, ◌≤◌}
-use lib.ListN.{length, drop}
+use Prim.Native.Nat.{◌*◌}
+use lib.ListN.{drop}
 use Rattle.records.specs.Text.{text}
 use Rattle.records.proofs.Answers.{Reached}
 use Rattle.records.proofs.put_records.Given as goal
 
-abbrev pub invariant-loop-at : goal.invariant-loop-at
-invariant-loop-at l =
-    (l.at ≤ length l.input) × (length l.output ≡ length l.initial.output) × Reached (text l.input) l.initial.output l.output l.to (text (drop l.at l.input))
-
-abbrev pub decreases-loop-at : goal.decreases-loop-at
-decreases-loop-at l = length l.input - l.at
+abbrev pub invariant-loop-record : goal.invariant-loop-record
+invariant-loop-record l = record {
+  same : l.line.bytes.ghost_name ≡ l.initial.line.bytes.ghost_name;
+  reached : Reached (text l.input) l.initial.line.to l.initial.line.bytes.now l.line.bytes.now l.line.to
+      (text (drop (4 * l.record-index) l.input));
+}

@@ -2,7 +2,7 @@
 use mathlib.Core.Path.{◌≡◌, refl, sym, ap, ◌∙◌}
 use mathlib.Core.Bool.{Bool, true, false, ◌&&◌}
 use mathlib.Core.List.{List}
-use Prim.Native.Nat.{ℕ, suc, ◌+◌, ◌-◌, ◌*◌, ◌≤◌}
+use Prim.Native.Nat.{ℕ, suc, ◌+◌, ◌-◌, ◌*◌, ◌<◌, ◌≤◌}
 use lib.Dec.{leb, eqb}
 use lib.Ieee.{Float, nan}
 use lib.ListN.{length, get_or}
@@ -28,16 +28,18 @@ module _ (rows : ℕ) (x : List Float) where
   abbrev entry_T'' : ℕ → ℕ → Float
   entry_T'' i j = T'' j (get_or x i nan)
 
-  pub bends_filled : (l now l' now' : List Float) (j at : ℕ) → at ≡ j * rows → now ≡ stretch 0 at (cell rows entry_T') l →
-      at + rows ≤ length l' → now' ≡ stretch 0 at (cell rows entry_T'') l' →
-      stretch at rows (column_T'' j rows x now now' at) now' ≡ stretch 0 (at + rows) (cell rows entry_T'') l'
+  pub bends_filled : (order j : ℕ) → j < order → (l now l' now' : List Float) → now ≡ stretch 0 (j * rows) (cell rows entry_T') l →
+      length l' ≡ order * rows → now' ≡ stretch 0 (j * rows) (cell rows entry_T'') l' →
+      stretch (j * rows) rows (column_T'' j rows x now now' (j * rows)) now' ≡ stretch 0 ((j + 1) * rows) (cell rows entry_T'') l'
   unfolding T''
-  bends_filled l now l' now' j at e made fits made' =
-      column_filled rows entry_T'' l' now' j at e fits _ _ _ (λ i. refl) (λ i. refl)
-      (λ k i q h. let slope : get_or now (at - rows + i) nan ≡ entry_T' i (suc k) = rw made
-      (back_one rows entry_T' l (suc k) i at h (rw q at e)) in
-      let one : get_or now' (at - rows + i) nan ≡ entry_T'' i (suc k) = rw made' (back_one rows entry_T'' l' (suc k) i at h (rw q at e)) in
-      let two : get_or now' (at - rows - rows + i) nan ≡ entry_T'' i k = rw made' (back_two rows entry_T'' l' k i at h (rw q at e)) in
+  bends_filled order j below l now l' now' made long made' =
+      column_filled rows entry_T'' order j below l' now' long _ _ _ (λ i. refl) (λ i. refl)
+      (λ k i q h. let slope : get_or now (j * rows - rows + i) nan ≡ entry_T' i (suc k) = rw made
+      (back_one rows entry_T' l (suc k) i (j * rows) h (rw q)) in
+      let one : get_or now' (j * rows - rows + i) nan ≡ entry_T'' i (suc k) = rw made'
+      (back_one rows entry_T'' l' (suc k) i (j * rows) h (rw q)) in
+      let two : get_or now' (j * rows - rows - rows + i) nan ≡ entry_T'' i k = rw made'
+      (back_two rows entry_T'' l' k i (j * rows) h (rw q)) in
       rw (slope, one, two)) made'
 
 -- THE NUMBER

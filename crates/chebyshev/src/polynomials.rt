@@ -1,65 +1,50 @@
 // The Chebyshev polynomials T and their derivatives T' at a list of points, column by column.
 ghost use Rattle.std.specs.Prelude.{◌≡◌, ◌*◌, length};
+ghost use Rattle.common.specs.Numbers.{told_number};
 ghost use Rattle.polynomial_columns.specs.Recurrence.{T, T'};
 ghost use Rattle.chebyshev.specs.Polynomials.{at_points, polynomials_number, polynomials_call};
 
+use common::{MOST_POINTS, Refusal, check_order, size_if};
 use polynomial_columns::{both_columns, polynomial_column};
 
-fn fill_polynomials(order: usize, rows: usize, points: &[f64], tn: &mut [f64])
-    requires { (length points.now ≡ rows) × (length tn.old ≡ order * rows) }
-    ensures { tn.new ≡ at_points T order rows points.now }
+fn fill_polynomials(order: usize, points: &[f64], tn: &mut [f64])
+    requires { length tn.old ≡ order * length points.now }
+    ensures { tn.new ≡ at_points T order (length points.now) points.now }
 {
-    let mut j = 0;
-    let mut at = 0;
-    while j < order {
-        polynomial_column(j, rows, points, at, tn);
-        at += rows;
-        j += 1;
+    for j in 0..order {
+        polynomial_column(j, points, tn);
     }
 }
 
-fn fill_both(order: usize, rows: usize, points: &[f64], tn: &mut [f64], dtn: &mut [f64])
-    requires { (length points.now ≡ rows) × (length tn.old ≡ order * rows) × (length dtn.old ≡ order * rows) }
-    ensures { (tn.new ≡ at_points T order rows points.now) ×
-        (dtn.new ≡ at_points T' order rows points.now) }
+fn fill_both(order: usize, points: &[f64], tn: &mut [f64], dtn: &mut [f64])
+    requires { let size = order * length points.now in (length tn.old ≡ size) × (length dtn.old ≡ size) }
+    ensures { let rows = length points.now in
+        (tn.new ≡ at_points T order rows points.now) × (dtn.new ≡ at_points T' order rows points.now) }
 {
-    let mut j = 0;
-    let mut at = 0;
-    while j < order {
-        both_columns(j, rows, points, at, tn, dtn);
-        at += rows;
-        j += 1;
+    for j in 0..order {
+        both_columns(j, points, tn, dtn);
     }
 }
 
-// The lowest refusal, or 0. A product of counts is made once they are in range.
-pub(crate) fn polynomials_number(
+// The lowest refusal. A product of counts is made once they are in range.
+pub(crate) fn check_polynomials(
     order: usize,
     rows: usize,
     with_derivatives: bool,
     points: usize,
     tn: usize,
     dtn: usize,
-) -> u8
-    ensures { result ≡ polynomials_number order rows with_derivatives points tn dtn }
+) -> Result<(), Refusal>
+    ensures { told_number result ≡ polynomials_number order rows with_derivatives points tn dtn }
 {
-    let wrong = common::order_number(order);
-    if wrong != 0 {
-        return wrong;
+    check_order(order)?;
+    if MOST_POINTS < rows {
+        return Err(Refusal::NoCount);
     }
-    if common::MOST_POINTS < rows {
-        return common::NO_COUNT;
+    if points != rows || tn != order * rows || dtn != size_if(with_derivatives, tn) {
+        return Err(Refusal::WrongLength);
     }
-    if points != rows {
-        return common::WRONG_LENGTH;
-    }
-    if tn != order * rows {
-        return common::WRONG_LENGTH;
-    }
-    if dtn != common::size_if(with_derivatives, tn) {
-        return common::WRONG_LENGTH;
-    }
-    0
+    Ok(())
 }
 
 // T, and T' where they are asked for, of the columns below the order, one row a point. Without derivatives `dtn` is empty.
@@ -70,25 +55,22 @@ pub fn evaluate_chebyshev_polynomials(
     with_derivatives: bool,
     tn: &mut [f64],
     dtn: &mut [f64],
-) -> u8
-    ensures { (result, tn.new, dtn.new) ≡
+) -> Result<(), Refusal>
+    ensures { (told_number result, tn.new, dtn.new) ≡
         polynomials_call order rows with_derivatives points.now tn.old dtn.old }
 {
-    let refused = polynomials_number(
+    check_polynomials(
         order,
         rows,
         with_derivatives,
         points.len(),
         tn.len(),
         dtn.len(),
-    );
-    if refused != 0 {
-        return refused;
-    }
+    )?;
     if with_derivatives {
-        fill_both(order, rows, points, tn, dtn);
+        fill_both(order, points, tn, dtn);
     } else {
-        fill_polynomials(order, rows, points, tn);
+        fill_polynomials(order, points, tn);
     }
-    0
+    Ok(())
 }

@@ -101,27 +101,27 @@ module _ (D p : ℕ) (side : Float) (i : ℕ) (l : Lengths) where
         h.block,
       )
 
-  -- WHAT THE POINT CALLS LEAVE, since neither refuses
+  -- WHAT THE POINT CALLS ANSWER AND LEAVE: neither refuses
 
   sizes_none : (n m : ℕ) → is_cell side ≡ true → n ≡ p → m ≡ D * p ^ D → sizes_number D p side n m ≡ 0
   unfolding sizes_number
   sizes_none n m c e f = rw (eq-eqb n p e, eq-eqb m (D * p ^ D) f, c)
 
   pub sources_filled : (nodes before after : List Float) (r : ℕ) → Taken → length nodes ≡ p → length before ≡ D * p ^ D →
-      (r, after) ≡ source_call D p side i nodes before → after ≡ points_of D p (source_point D p side i nodes)
+      (r, after) ≡ source_call D p side i nodes before → (r ≡ 0) × (after ≡ points_of D p (source_point D p side i nodes))
   unfolding source_call source_number
   sources_filled nodes before after r h n b e =
       let none : source_number D p side i (length nodes) (length before) ≡ 0 =
       shape_past D p _ h.shape ∙ rw h.there (sizes_none (length nodes) (length before) h.cell n b) in
-      ap (λ (t : ℕ × List Float). t.1) e ∙ left_done _ (points_of D p (source_point D p side i nodes)) before none
+      (ap (λ (t : ℕ × List Float). t.0) e ∙ none, ap (λ (t : ℕ × List Float). t.1) e ∙ left_done _ _ before none)
 
   pub targets_filled : (nodes before after : List Float) (r : ℕ) → Taken → length nodes ≡ p → length before ≡ D * p ^ D →
-      (r, after) ≡ target_call D p side nodes before → after ≡ points_of D p (target_point D p side nodes)
+      (r, after) ≡ target_call D p side nodes before → (r ≡ 0) × (after ≡ points_of D p (target_point D p side nodes))
   unfolding target_call target_number
   targets_filled nodes before after r h n b e =
       let none : target_number D p side (length nodes) (length before) ≡ 0 =
       shape_past D p _ h.shape ∙ sizes_none (length nodes) (length before) h.cell n b in
-      ap (λ (t : ℕ × List Float). t.1) e ∙ left_done _ (points_of D p (target_point D p side nodes)) before none
+      (ap (λ (t : ℕ × List Float). t.0) e ∙ none, ap (λ (t : ℕ × List Float). t.1) e ∙ left_done _ _ before none)
 
 -- THE BLOCK between those points
 

@@ -3,10 +3,15 @@ use mathlib.Core.Path.{◌≡◌}
 use mathlib.Core.List.{List}
 use Prim.Native.Nat.{ℕ}
 use lib.Ieee.{Float}
-use Rattle.common.proofs.Determined.{coincide}
+use Rattle.std.specs.Prelude.{Result}
+use Rattle.common.specs.Numbers.{told_number}
+use Rattle.common.specs.declared.refusals.Refusal.{Refusal}
+use Rattle.common.proofs.Determined.{told_coincide}
 use Rattle.distances.specs.Distances.{Memory, sample_call}
 
-module _ (dimension order : ℕ) (side : Float) (reference : ℕ) (nodes : List Float) (lent exit exit' : Memory) (r r' : ℕ) where
-  sample_distances_determined : (r, exit) ≡ sample_call dimension order side reference nodes lent →
-      (r', exit') ≡ sample_call dimension order side reference nodes lent → ◌≡◌ {A = ℕ × Memory} (r, exit) (r', exit')
-  sample_distances_determined = coincide (r, exit) (r', exit') (sample_call dimension order side reference nodes lent)
+module _ (dimension order : ℕ) (side : Float) (reference : ℕ) (nodes : List Float) (lent exit exit' : Memory)
+    (r r' : Result Unit Refusal) where
+  sample_distances_determined : (told_number r, exit) ≡ sample_call dimension order side reference nodes lent →
+      (told_number r', exit') ≡ sample_call dimension order side reference nodes lent →
+      ◌≡◌ {A = Result Unit Refusal × Memory} (r, exit) (r', exit')
+  sample_distances_determined = told_coincide r r' exit exit' (sample_call dimension order side reference nodes lent)

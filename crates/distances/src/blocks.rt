@@ -13,11 +13,9 @@ fn square_column(rows: usize, sources: &[f64], coordinate: f64, column: &mut [f6
     requires { (rows ≤ length sources.now) × (length column.old ≡ rows) }
     ensures { column.new ≡ tabulate rows (λ i. apart (get_or sources.now i nan) coordinate) }
 {
-    let mut i = 0;
-    while i < rows {
+    for i in 0..rows {
         let difference = sources[i] - coordinate;
         column[i] = difference * difference;
-        i += 1;
     }
 }
 
@@ -27,11 +25,9 @@ fn add_square_column(rows: usize, sources: &[f64], from: usize, coordinate: f64,
     ensures { column.new ≡
         tabulate rows (λ i. plus (get_or column.old i nan) (apart (get_or sources.now (from + i) nan) coordinate)) }
 {
-    let mut i = 0;
-    while i < rows {
+    for i in 0..rows {
         let difference = sources[from + i] - coordinate;
         column[i] = column[i] + difference * difference;
-        i += 1;
     }
 }
 
@@ -40,10 +36,8 @@ fn root_column(rows: usize, column: &mut [f64])
     requires { length column.old ≡ rows }
     ensures { column.new ≡ tabulate rows (λ i. root (get_or column.old i nan)) }
 {
-    let mut i = 0;
-    while i < rows {
+    for i in 0..rows {
         column[i] = roots::square_root(column[i]);
-        i += 1;
     }
 }
 
@@ -61,12 +55,10 @@ fn fill_column(
         tabulate rows (λ i. between dimension rows sources.now targets.now i target) }
 {
     square_column(rows, sources, targets[target], column);
-    let mut axis = 1;
     let mut at = rows;
-    while axis < dimension {
+    for axis in 1..dimension {
         add_square_column(rows, sources, at, targets[at + target], column);
         at += rows;
-        axis += 1;
     }
     root_column(rows, column);
 }
@@ -83,9 +75,8 @@ pub(crate) fn fill_block(
     ensures { block.new ≡
         column_major rows rows (between dimension rows sources.now targets.now) }
 {
-    let mut target = 0;
     let mut at = 0;
-    while target < rows {
+    for target in 0..rows {
         let end = at + rows;
         fill_column(
             dimension,
@@ -96,6 +87,5 @@ pub(crate) fn fill_block(
             &mut block[at..end],
         );
         at = end;
-        target += 1;
     }
 }

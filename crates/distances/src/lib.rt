@@ -6,13 +6,16 @@ mod blocks;
 mod limits;
 
 ghost use Rattle.std.specs.Prelude.{◌≡◌};
+ghost use Rattle.common.specs.Numbers.{told_number};
 ghost use Rattle.distances.specs.Distances.{sample_call};
 
 use crate::blocks::fill_block;
-use crate::limits::sample_number;
+use crate::limits::check_sample;
+use common::{Refusal, Shape};
+use points::{generate_chebyshev_source_points, generate_chebyshev_target_points};
 
 // The lengths of the lent buffers.
-#[derive(Drop)]
+#[derive(Clone, Copy, PartialEq, Eq)]
 pub struct Lengths {
     pub nodes: usize,
     pub sources: usize,
@@ -30,29 +33,21 @@ pub fn sample_distances(
     sources: &mut [f64],
     targets: &mut [f64],
     block: &mut [f64],
-) -> u8
-    ensures { (result, (sources.new, targets.new, block.new)) ≡
+) -> Result<(), Refusal>
+    ensures { (told_number result, (sources.new, targets.new, block.new)) ≡
         sample_call dimension order side reference nodes.now
         (sources.old, targets.old, block.old) }
 {
+    let shape = Shape::new(dimension, order)?;
     let lent = Lengths {
         nodes: nodes.len(),
         sources: sources.len(),
         targets: targets.len(),
         block: block.len(),
     };
-    let refused = sample_number(dimension, order, side, reference, lent);
-    if refused != 0 {
-        return refused;
-    }
-    points::generate_chebyshev_source_points(dimension, order, side, reference, nodes, sources);
-    points::generate_chebyshev_target_points(dimension, order, side, nodes, targets);
-    fill_block(
-        dimension,
-        common::power(order, dimension),
-        sources,
-        targets,
-        block,
-    );
-    0
+    check_sample(shape, side, reference, lent)?;
+    generate_chebyshev_source_points(dimension, order, side, reference, nodes, sources)?;
+    generate_chebyshev_target_points(dimension, order, side, nodes, targets)?;
+    fill_block(dimension, shape.nodes(), sources, targets, block);
+    Ok(())
 }

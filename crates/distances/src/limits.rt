@@ -1,53 +1,46 @@
 // The refusals of the sampler.
 ghost use Rattle.std.specs.Prelude.{◌≡◌, ◌^◌, ◌≤◌};
-ghost use Rattle.common.specs.Refusals.{Shape, most_entries};
+ghost use Rattle.common.specs.Numbers.{told_number};
+ghost use Rattle.common.specs.Refusals.{most_entries};
 ghost use Rattle.distances.specs.Distances.{lengths_fit, sample_number};
 
 use crate::Lengths;
-use vectors::Reference;
+use common::{MOST_ENTRIES, Refusal, Shape, is_cell};
+use vectors::reference_vector;
 
-fn lengths_fit(dimension: usize, order: usize, rows: usize, lent: Lengths) -> bool
-    requires { Shape dimension order × (rows ≡ order ^ dimension) × (rows ≤ most_entries) }
-    ensures { result ≡ lengths_fit dimension order lent }
+fn lengths_fit(shape: Shape, lent: Lengths) -> bool
+    requires { shape.order ^ shape.dimension ≤ most_entries }
+    ensures { result ≡ lengths_fit shape.dimension shape.order lent }
 {
-    if lent.nodes != order {
-        return false;
+    let rows = shape.nodes();
+    let points = shape.dimension * rows;
+    lent == Lengths {
+        nodes: shape.order,
+        sources: points,
+        targets: points,
+        block: rows * rows,
     }
-    if lent.sources != dimension * rows {
-        return false;
-    }
-    if lent.targets != dimension * rows {
-        return false;
-    }
-    lent.block == rows * rows
 }
 
-// The lowest refusal, or 0.
-pub(crate) fn sample_number(
-    dimension: usize,
-    order: usize,
+// The lowest refusal past the shape's.
+pub(crate) fn check_sample(
+    shape: Shape,
     side: f64,
     reference: usize,
     lent: Lengths,
-) -> u8
-    ensures { result ≡ sample_number dimension order side reference lent }
+) -> Result<(), Refusal>
+    ensures { told_number result ≡ sample_number shape.dimension shape.order side reference lent }
 {
-    let shape = common::shape_number(dimension, order);
-    if shape != 0 {
-        return shape;
+    let rows = shape.nodes();
+    if MOST_ENTRIES < rows {
+        return Err(Refusal::NoCount);
     }
-    let rows = common::power(order, dimension);
-    if common::MOST_ENTRIES < rows {
-        return common::NO_COUNT;
+    reference_vector(shape.dimension, reference)?;
+    if !lengths_fit(shape, lent) {
+        return Err(Refusal::WrongLength);
     }
-    let Reference::Found(_) = vectors::reference_vector(dimension, reference) else {
-        return common::NO_CASE;
-    };
-    if !lengths_fit(dimension, order, rows, lent) {
-        return common::WRONG_LENGTH;
+    if !is_cell(side) {
+        return Err(Refusal::NoCell);
     }
-    if common::is_cell(side) {
-        return 0;
-    }
-    common::NO_CELL
+    Ok(())
 }

@@ -3,6 +3,7 @@ use mathlib.Core.Path.{◌≡◌, refl, sym, ◌∙◌}
 use mathlib.Core.Bool.{true}
 use mathlib.Core.List.{List}
 use Prim.Native.Nat.{ℕ, ◌^◌, ◌*◌, ◌<◌, ◌≤◌}
+use native.Mathlib.Omega.{arith}
 use lib.ListN.{length}
 use lib.Ieee.{Float, nan}
 use borrow.Author.Tests.{lt-ltb}
@@ -27,10 +28,9 @@ use Rattle.turn_tables.proofs.Nodes.{turned_below}
 use Rattle.turn.proofs.References.{reference_below}
 use Rattle.turn.proofs.Right.{case_below}
 use Rattle.turn.proofs.RightCalls.{look_up_taken, filled}
-use Rattle.node_rows.specs.Rows.{node}
 use Rattle.nodes.specs.Sets.{mirrored, set_call}
-use Rattle.nodes.proofs.Calls.{nodes_taken, nodes_done}
-use Rattle.nodes.proofs.SetCalls.{set_mirrored}
+use Rattle.nodes.proofs.Calls.{nodes_taken}
+use Rattle.nodes.proofs.SetCalls.{set_known}
 use Rattle.point_columns.specs.Blocks.{node_on, points_of}
 use Rattle.points.specs.Points.{target_point, source_point, sizes_number, source_number, target_call, source_call}
 use Rattle.points.proofs.Calls.{sizes_none, target_sizes, target_done}
@@ -53,9 +53,7 @@ sources_of D p side i = points_of D p (source_point D p side i (exact p))
 module _ (D p : ℕ) (side : Float) (ok : Shape D p) (c : is_cell side ≡ true) where
   node_set : (nodes : List Float) → length nodes ≡ p → set_call p 1 nodes ≡ (0, exact p)
   node_set nodes e =
-      let taken = nodes_taken p (length nodes) ok.order_least ok.order_most e in
-      let made = nodes_done p nodes 0 (sym taken) (tabulate p (node p)) refl refl in
-      sym (set_mirrored p 1 nodes 0 (tabulate p (node p)) made refl (exact p) refl refl)
+      sym (set_known p 1 nodes (exact p) (nodes_taken p (length nodes) ok.order_least ok.order_most e) (omega arith) refl)
 
   sizes_taken : (points : List Float) → length points ≡ D * p ^ D → 0 ≡ sizes_number D p side (length (exact p)) (length points)
   sizes_taken points e = sizes_none D p side (length (exact p)) (length points) (length_tabulate p (mirrored p)) e c

@@ -1,14 +1,14 @@
 -- DEMAND 3 FOR FLOATS, OF THE CALLS: what five calls answer and leave for a far vector; proofs/FloatCalls.antt proves it.
-use Rattle.std.specs.Prelude.{◌≡◌, List, ℕ, ◌*◌, ◌^◌, ◌<◌, length, Float}
+use Rattle.std.specs.Prelude.{◌≡◌, Ok, List, ℕ, ◌*◌, ◌^◌, ◌<◌, length, Float}
 use Rattle.std.specs.Float.Ieee.{of_int}
 use Rattle.std.specs.Float.{binary64}
 use Rattle.common.specs.Floats.{minus}
 use Rattle.common.specs.Matrices.{matrix}
+use Rattle.common.specs.Numbers.{told}
 use Rattle.floats.specs.Sizes.{SameSize}
 use Rattle.vectors.specs.declared.Known.{Known}
 use Rattle.vectors.specs.declared.Vector.{Vector}
-use Rattle.vectors.specs.declared.LookUp.TheVariants as look
-use Rattle.vectors.specs.LookUps.{entries, told_look_up, look_up}
+use Rattle.vectors.specs.LookUps.{entries, look_up}
 use Rattle.turn_tables.specs.Turned.{turned}
 use Rattle.turn.specs.Turns.{matching}
 use Rattle.turn.specs.Tables.{table_call}
@@ -27,9 +27,9 @@ pub record Lent (D p : ℕ) (nodes targets sources : List Float) (table : List �
 -- Before the turn, source and target points stand in memory, those of the reference block. After it the target points are the same
 -- ones, and a source point is what the rule of source points gives with the vector's own entry.
 pub record FloatCallsAreRight (D p : ℕ) (side : Float) (v : Vector) (nodes targets sources : List Float) (table : List ℕ) : Type 0 where
-  -- `look_up` answers Found
+  -- `look_up` answers Ok
   pub known : Known
-  pub looked_up : look_up D v ≡ told_look_up (look.Found known)
+  pub looked_up : look_up D v ≡ told (Ok known)
   -- `generate_node_set` of set 1, the two calls for points and `combined_permutation` of the vector's case answer 0
   pub exact : List Float
   pub generated : set_call p 1 nodes ≡ (0, exact)

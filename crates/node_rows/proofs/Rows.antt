@@ -1,15 +1,30 @@
--- A row of the table that was copied holds the nodes of its order. Assumes nothing.
-use mathlib.Core.Path.{◌≡◌, ◌∙◌}
+-- The table's row of an order, which is copied, holds the nodes of that order. Assumes nothing.
+use mathlib.Core.Path.{◌≡◌, refl, sym, ap, ◌∙◌}
 use mathlib.Core.List.{List}
-use Prim.Native.Nat.{ℕ}
+use Prim.Native.Nat.{ℕ, ◌+◌, ◌-◌, ◌<◌, ◌≤◌}
+use native.Mathlib.Nat.{mul-le-mul}
+use native.Mathlib.Omega.{arith}
 use lib.Ieee.{Float, nan}
-use lib.ListN.{length, get_or}
-use Rattle.common.specs.Lists.{tabulate, stretch}
-use Rattle.common.proofs.Fill.{get_d_tabulate, tabulate_cong, fill_all}
-use Rattle.node_rows.specs.Rows.{node}
+use lib.ListN.{length, get_or, take, drop}
+use lib.Seq.{ext_get_or}
+use Rattle.common.specs.Lists.{tabulate}
+use Rattle.common.proofs.Fill.{length_tabulate, get_d_tabulate, part_length, part_read}
+use Rattle.node_rows.specs.Rows.{entry, start, node}
 
-pub row_right : (p k : ℕ) (nodes after : List Float) → p ≡ k → length nodes ≡ p →
-    after ≡ stretch 0 k (λ i. get_or (tabulate k (node k)) i nan) nodes →
-    after ≡ tabulate p (node p)
-row_right p k nodes after e long made =
-    rw e (made ∙ fill_all k _ nodes (long ∙ e) ∙ tabulate_cong k _ (node k) (λ i h. get_d_tabulate k (node k) i nan h))
+pub row_fits : (p : ℕ) → 1 ≤ p → p ≤ 16 → start p + p ≤ 136
+row_fits p least most =
+    let square = mul-le-mul {n₁ = p} {m₁ = p - 1} {n₂ = 16} {m₂ = 15} most (omega arith) in omega arith
+
+pub row_right : (p : ℕ) (table : List Float) → 1 ≤ p → p ≤ 16 → table ≡ tabulate 136 entry →
+    take (start p + p - start p) (drop (start p) table) ≡ tabulate p (node p)
+row_right p table least most e =
+    let fits = row_fits p least most in
+    let whole : length table ≡ 136 = rw (e, length_tabulate) in
+    let long : length (take (start p + p - start p) (drop (start p) table)) ≡ p =
+    part_length (start p) (start p + p) p table refl (omega arith) in
+    ext_get_or nan _ _ (long ∙ sym (length_tabulate p (node p)))
+    (λ i b. let low : i < p = rw long at b in
+    part_read (start p) (start p + p) p table i nan refl low
+    ∙ ap (λ (l : List Float). get_or l (start p + i) nan) e
+    ∙ get_d_tabulate 136 entry (start p + i) nan (omega arith)
+    ∙ sym (get_d_tabulate p (node p) i nan low))

@@ -5,42 +5,36 @@ ghost use Rattle.std.specs.Prelude.{◌≡◌, ◌≤◌, length};
 ghost use Rattle.common.specs.Lists.{tabulate};
 ghost use Rattle.node_rows.specs.Rows.{node};
 
-// The nodes of each order, rising.
-const NODES_1: [f64; 1] = [6.123233995736766e-17];
-
-const NODES_2: [f64; 2] = [-0.7071067811865475, 0.7071067811865476];
-
-const NODES_3: [f64; 3] = [
+// The nodes of each order, rising; order p has the p entries from p * (p - 1) / 2 on.
+static NODES: [f64; 136] = [
+    // 1
+    6.123233995736766e-17,
+    // 2
+    -0.7071067811865475,
+    0.7071067811865476,
+    // 3
     -0.8660254037844387,
     6.123233995736766e-17,
     0.8660254037844387,
-];
-
-const NODES_4: [f64; 4] = [
+    // 4
     -0.9238795325112867,
     -0.3826834323650897,
     0.38268343236508984,
     0.9238795325112867,
-];
-
-const NODES_5: [f64; 5] = [
+    // 5
     -0.9510565162951535,
     -0.587785252292473,
     6.123233995736766e-17,
     0.5877852522924731,
     0.9510565162951535,
-];
-
-const NODES_6: [f64; 6] = [
+    // 6
     -0.9659258262890682,
     -0.7071067811865475,
     -0.25881904510252063,
     0.25881904510252074,
     0.7071067811865476,
     0.9659258262890683,
-];
-
-const NODES_7: [f64; 7] = [
+    // 7
     -0.9749279121818237,
     -0.7818314824680295,
     -0.43388373911755806,
@@ -48,9 +42,7 @@ const NODES_7: [f64; 7] = [
     0.4338837391175582,
     0.7818314824680298,
     0.9749279121818236,
-];
-
-const NODES_8: [f64; 8] = [
+    // 8
     -0.9807852804032304,
     -0.8314696123025453,
     -0.555570233019602,
@@ -59,9 +51,7 @@ const NODES_8: [f64; 8] = [
     0.5555702330196023,
     0.8314696123025452,
     0.9807852804032304,
-];
-
-const NODES_9: [f64; 9] = [
+    // 9
     -0.984807753012208,
     -0.8660254037844385,
     -0.6427876096865394,
@@ -71,9 +61,7 @@ const NODES_9: [f64; 9] = [
     0.6427876096865394,
     0.8660254037844387,
     0.984807753012208,
-];
-
-const NODES_10: [f64; 10] = [
+    // 10
     -0.9876883405951377,
     -0.8910065241883678,
     -0.7071067811865475,
@@ -84,9 +72,7 @@ const NODES_10: [f64; 10] = [
     0.7071067811865476,
     0.8910065241883679,
     0.9876883405951378,
-];
-
-const NODES_11: [f64; 11] = [
+    // 11
     -0.9898214418809327,
     -0.9096319953545182,
     -0.7557495743542582,
@@ -98,9 +84,7 @@ const NODES_11: [f64; 11] = [
     0.7557495743542583,
     0.9096319953545184,
     0.9898214418809327,
-];
-
-const NODES_12: [f64; 12] = [
+    // 12
     -0.9914448613738104,
     -0.9238795325112867,
     -0.793353340291235,
@@ -113,9 +97,7 @@ const NODES_12: [f64; 12] = [
     0.7933533402912352,
     0.9238795325112867,
     0.9914448613738104,
-];
-
-const NODES_13: [f64; 13] = [
+    // 13
     -0.992708874098054,
     -0.9350162426854147,
     -0.8229838658936564,
@@ -129,9 +111,7 @@ const NODES_13: [f64; 13] = [
     0.8229838658936564,
     0.9350162426854148,
     0.992708874098054,
-];
-
-const NODES_14: [f64; 14] = [
+    // 14
     -0.9937122098932426,
     -0.9438833303083676,
     -0.8467241992282841,
@@ -146,9 +126,7 @@ const NODES_14: [f64; 14] = [
     0.8467241992282841,
     0.9438833303083676,
     0.9937122098932426,
-];
-
-const NODES_15: [f64; 15] = [
+    // 15
     -0.9945218953682734,
     -0.9510565162951535,
     -0.8660254037844387,
@@ -164,9 +142,7 @@ const NODES_15: [f64; 15] = [
     0.8660254037844387,
     0.9510565162951535,
     0.9945218953682733,
-];
-
-const NODES_16: [f64; 16] = [
+    // 16
     -0.9951847266721968,
     -0.9569403357322088,
     -0.8819212643483549,
@@ -185,47 +161,12 @@ const NODES_16: [f64; 16] = [
     0.9951847266721969,
 ];
 
-// Two functions fill the rows, eight each: the check of one with sixteen takes twice the memory.
-fn fill_lower_order(order: usize, nodes: &mut [f64])
-    requires { (1 ≤ order) × (order ≤ 8) × (length nodes.old ≡ order) }
-    ensures { nodes.new ≡ tabulate order (node order) }
+// The row of the order that is the buffer's length.
+pub fn fill_nodes(nodes: &mut [f64])
+    requires { (1 ≤ length nodes.old) × (length nodes.old ≤ 16) }
+    ensures { let order = length nodes.old in nodes.new ≡ tabulate order (node order) }
 {
-    match order {
-        1 => common::copy_column(1, &NODES_1, 0, nodes),
-        2 => common::copy_column(2, &NODES_2, 0, nodes),
-        3 => common::copy_column(3, &NODES_3, 0, nodes),
-        4 => common::copy_column(4, &NODES_4, 0, nodes),
-        5 => common::copy_column(5, &NODES_5, 0, nodes),
-        6 => common::copy_column(6, &NODES_6, 0, nodes),
-        7 => common::copy_column(7, &NODES_7, 0, nodes),
-        _ => common::copy_column(8, &NODES_8, 0, nodes),
-    }
-}
-
-fn fill_higher_order(order: usize, nodes: &mut [f64])
-    requires { (9 ≤ order) × (order ≤ 16) × (length nodes.old ≡ order) }
-    ensures { nodes.new ≡ tabulate order (node order) }
-{
-    match order {
-        9 => common::copy_column(9, &NODES_9, 0, nodes),
-        10 => common::copy_column(10, &NODES_10, 0, nodes),
-        11 => common::copy_column(11, &NODES_11, 0, nodes),
-        12 => common::copy_column(12, &NODES_12, 0, nodes),
-        13 => common::copy_column(13, &NODES_13, 0, nodes),
-        14 => common::copy_column(14, &NODES_14, 0, nodes),
-        15 => common::copy_column(15, &NODES_15, 0, nodes),
-        _ => common::copy_column(16, &NODES_16, 0, nodes),
-    }
-}
-
-// The row of an order into a buffer of that length.
-pub fn fill_nodes(order: usize, nodes: &mut [f64])
-    requires { (1 ≤ order) × (order ≤ 16) × (length nodes.old ≡ order) }
-    ensures { nodes.new ≡ tabulate order (node order) }
-{
-    if order < 9 {
-        fill_lower_order(order, nodes)
-    } else {
-        fill_higher_order(order, nodes)
-    }
+    let order = nodes.len();
+    let start = order * (order - 1) / 2;
+    nodes.copy_from_slice(&NODES[start..start + order]);
 }

@@ -3,14 +3,18 @@ use mathlib.Core.Path.{◌≡◌}
 use mathlib.Core.List.{List}
 use Prim.Native.Nat.{ℕ}
 use lib.Ieee.{Float}
-use Rattle.common.proofs.Determined.{coincide}
+use Rattle.std.specs.Prelude.{Result}
+use Rattle.common.specs.Numbers.{told_number}
+use Rattle.common.specs.declared.refusals.Refusal.{Refusal}
+use Rattle.common.proofs.Determined.{told_coincide}
 use Rattle.nodes.specs.Nodes.{nodes_call}
 use Rattle.nodes.specs.Sets.{set_call}
 
-generate_chebyshev_nodes_determined : (order : ℕ) (nodes exit exit' : List Float) (r r' : ℕ) → (r, exit) ≡ nodes_call order nodes →
-    (r', exit') ≡ nodes_call order nodes → ◌≡◌ {A = ℕ × List Float} (r, exit) (r', exit')
-generate_chebyshev_nodes_determined order nodes exit exit' r r' = coincide (r, exit) (r', exit') (nodes_call order nodes)
+module _ (order : ℕ) (nodes exit exit' : List Float) (r r' : Result Unit Refusal) where
+  generate_chebyshev_nodes_determined : (told_number r, exit) ≡ nodes_call order nodes →
+      (told_number r', exit') ≡ nodes_call order nodes → ◌≡◌ {A = Result Unit Refusal × List Float} (r, exit) (r', exit')
+  generate_chebyshev_nodes_determined = told_coincide r r' exit exit' (nodes_call order nodes)
 
-generate_node_set_determined : (order set : ℕ) (nodes exit exit' : List Float) (r r' : ℕ) → (r, exit) ≡ set_call order set nodes →
-    (r', exit') ≡ set_call order set nodes → ◌≡◌ {A = ℕ × List Float} (r, exit) (r', exit')
-generate_node_set_determined order set nodes exit exit' r r' = coincide (r, exit) (r', exit') (set_call order set nodes)
+  generate_node_set_determined : (set : ℕ) → (told_number r, exit) ≡ set_call order set nodes →
+      (told_number r', exit') ≡ set_call order set nodes → ◌≡◌ {A = Result Unit Refusal × List Float} (r, exit) (r', exit')
+  generate_node_set_determined set = told_coincide r r' exit exit' (set_call order set nodes)

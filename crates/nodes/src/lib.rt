@@ -2,33 +2,30 @@
 #![tactic(auto)]
 
 ghost use Rattle.std.specs.Prelude.{◌≡◌};
+ghost use Rattle.common.specs.Numbers.{told_number};
 ghost use Rattle.nodes.specs.Nodes.{nodes_number, nodes_call};
 
 mod sets;
 
+use common::{Refusal, check_order};
+use node_rows::fill_nodes;
 pub use sets::generate_node_set;
 
-fn nodes_number(order: usize, size: usize) -> u8
-    ensures { result ≡ nodes_number order size }
+fn check_nodes(order: usize, size: usize) -> Result<(), Refusal>
+    ensures { told_number result ≡ nodes_number order size }
 {
-    let refused = common::order_number(order);
-    if refused != 0 {
-        return refused;
-    }
+    check_order(order)?;
     if size != order {
-        return common::WRONG_LENGTH;
+        return Err(Refusal::WrongLength);
     }
-    0
+    Ok(())
 }
 
 // The nodes of an order, rising, into a buffer of that length.
-pub fn generate_chebyshev_nodes(order: usize, nodes: &mut [f64]) -> u8
-    ensures { (result, nodes.new) ≡ nodes_call order nodes.old }
+pub fn generate_chebyshev_nodes(order: usize, nodes: &mut [f64]) -> Result<(), Refusal>
+    ensures { (told_number result, nodes.new) ≡ nodes_call order nodes.old }
 {
-    let number = nodes_number(order, nodes.len());
-    if number != 0 {
-        return number;
-    }
-    node_rows::fill_nodes(order, nodes);
-    0
+    check_nodes(order, nodes.len())?;
+    fill_nodes(nodes);
+    Ok(())
 }

@@ -1,5 +1,5 @@
 -- A column of the operators, summed and scaled; and all columns make the matrix. Assumes nothing.
-use mathlib.Core.Path.{◌≡◌, sym, ap, ◌∙◌}
+use mathlib.Core.Path.{◌≡◌, refl, sym, ap, ◌∙◌}
 use mathlib.Core.List.{List}
 use Prim.Native.Nat.{ℕ, suc, ◌+◌, ◌-◌, ◌*◌, ◌<◌, ◌≤◌}
 use native.Mathlib.Numerals.{add-one}
@@ -11,7 +11,7 @@ use Rattle.common.specs.Floats.{plus, minus, times, over, one₆₄, two₆₄, 
 use Rattle.common.specs.Lists.{stretch}
 use Rattle.common.specs.Matrices.{cell, column_major}
 use Rattle.common.proofs.Fill.{stretch_inside, stretch_cong, stretch_again, fill_on}
-use Rattle.common.proofs.Matrices.{cell_at, columns_filled}
+use Rattle.common.proofs.Matrices.{next_column, column_fits, cell_at, columns_filled}
 use Rattle.polynomial_columns.specs.Recurrence.{T}
 use Rattle.operators.specs.Operators.{child_node, operator}
 use Rattle.operators.specs.Working.{part_of}
@@ -37,24 +37,28 @@ T_next k x t next h h' =
 -- A WHOLE COLUMN, summed and scaled, after those before it
 
 module _ (p : ℕ) (nodes poly : List Float) where
-  pub column_done : (l start summed : List Float) (c at : ℕ) (x factor offset : Float) → at ≡ c * p → at + p ≤ length l →
+  pub column_done : (l start summed : List Float) (c : ℕ) (x factor offset : Float) → c < p + p → length l ≡ (p + p) * p →
       x ≡ child_node p nodes c →
       factor ≡ over two₆₄ (float p) → offset ≡ over one₆₄ (float p) →
-      start ≡ stretch 0 at (cell p (operator p nodes poly)) l → summed ≡ stretch at p (part_of p poly x p) start → length start ≡ length l →
-      stretch at p (λ i. minus (times (get_or summed (at + i) nan) factor) offset) summed
-      ≡ stretch 0 (at + p) (cell p (operator p nodes poly)) l
+      start ≡ stretch 0 (c * p) (cell p (operator p nodes poly)) l → summed ≡ stretch (c * p) p (part_of p poly x p) start →
+      length start ≡ length l →
+      stretch (c * p) p (λ i. minus (times (get_or summed (c * p + i) nan) factor) offset) summed
+      ≡ stretch 0 ((c + 1) * p) (cell p (operator p nodes poly)) l
   unfolding operator
-  column_done l start summed c at x factor offset e fits hx hf ho hs hm long =
-      let room : at + p ≤ length start = omega arith in
+  column_done l start summed c x factor offset below whole hx hf ho hs hm long =
+      let at = c * p in
+      let fits : c * p + p ≤ length l = rw whole (column_fits c (p + p) p at below refl) in
+      let room : c * p + p ≤ length start = omega arith in
       let entry : (i : ℕ) → i < p → minus (times (get_or summed (at + i) nan) factor) offset ≡ operator p nodes poly i c =
       λ i b. let inside : get_or summed (at + i) nan ≡ part_of p poly x p i = rw hm
       (stretch_inside at (part_of p poly x p) start p i nan b (omega arith)) in
       rw (inside, hf, ho, hx) in
       let column : ℕ → Float = λ i. operator p nodes poly i c in
-      stretch_cong at p _ column summed entry
+      rw (next_column c p)
+      (stretch_cong at p _ column summed entry
       ∙ ap (stretch at p column) hm ∙ stretch_again at p (part_of p poly x p) column start room ∙ ap (stretch at p column) hs
-      ∙ fill_on at p (cell p (operator p nodes poly)) column l (λ i b. sym (rw e (cell_at p (operator p nodes poly) i c b))) fits
+      ∙ fill_on at p (cell p (operator p nodes poly)) column l (λ i b. sym (cell_at p (operator p nodes poly) i c b)) fits)
 
-  pub columns_all : (l : List Float) (at : ℕ) → length l ≡ (p + p) * p → at ≡ (p + p) * p →
-      stretch 0 at (cell p (operator p nodes poly)) l ≡ column_major p (p + p) (operator p nodes poly)
-  columns_all l at h e = rw e (columns_filled p (operator p nodes poly) (p + p) l h)
+  pub columns_all : (l : List Float) (c : ℕ) → length l ≡ (p + p) * p → c ≡ p + p →
+      stretch 0 (c * p) (cell p (operator p nodes poly)) l ≡ column_major p (p + p) (operator p nodes poly)
+  columns_all l c h e = rw e (columns_filled p (operator p nodes poly) (p + p) l h)

@@ -3,11 +3,14 @@ use mathlib.Core.Path.{◌≡◌}
 use mathlib.Core.List.{List}
 use Prim.Native.Nat.{ℕ}
 use lib.Ieee.{Float}
-use Rattle.common.proofs.Determined.{coincide}
+use Rattle.std.specs.Prelude.{Result}
+use Rattle.common.specs.Numbers.{told_number}
+use Rattle.common.specs.declared.refusals.Refusal.{Refusal}
+use Rattle.common.proofs.Determined.{told_coincide}
 use Rattle.operators.specs.Operators.{operators_call}
 
-get_m2m_transfer_operators_determined : (order : ℕ) (nodes polynomials operators exit exit' : List Float) (r r' : ℕ) →
-    (r, exit) ≡ operators_call order nodes polynomials operators → (r', exit') ≡ operators_call order nodes polynomials operators →
-    ◌≡◌ {A = ℕ × List Float} (r, exit) (r', exit')
-get_m2m_transfer_operators_determined order nodes polynomials operators exit exit' r r' =
-    coincide (r, exit) (r', exit') (operators_call order nodes polynomials operators)
+module _ (order : ℕ) (nodes polynomials operators exit exit' : List Float) (r r' : Result Unit Refusal) where
+  get_m2m_transfer_operators_determined : (told_number r, exit) ≡ operators_call order nodes polynomials operators →
+      (told_number r', exit') ≡ operators_call order nodes polynomials operators →
+      ◌≡◌ {A = Result Unit Refusal × List Float} (r, exit) (r', exit')
+  get_m2m_transfer_operators_determined = told_coincide r r' exit exit' (operators_call order nodes polynomials operators)

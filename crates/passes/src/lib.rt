@@ -12,6 +12,9 @@ ghost use Rattle.passes.specs.Working.{Spaced, StripOf, added, summed};
 // of stack, and enough that an entry of the values is read once for all of them.
 const LANES: usize = 4;
 
+// As many entries as that many rows of the highest order have.
+const STRIP: usize = 64;
+
 // Entries that stand `step` apart, stored `gap` apart: a row of the operator in its lane, or the sums of a column in the result.
 fn copy_spaced(
     count: usize,
@@ -25,16 +28,21 @@ fn copy_spaced(
     requires { Spaced count from step (length source.now) × Spaced count at gap (length out.old) }
     ensures { out.new ≡ stores (λ k. at + gap * k) (spaced source.now from step) count out.old }
 {
-    let mut k = 0;
-    while k < count {
+    for k in 0..count {
         out[at + gap * k] = source[from + step * k];
-        k += 1;
     }
 }
 
 // Row r of the operator, as it stands or transposed, in one lane of the strip.
-fn lay_row(order: usize, block: &[f64], transpose: bool, r: usize, lane: usize, strip: &mut [f64])
-    requires { (order ≤ 16) × (r < order) × (lane < 4) × (length block.now ≡ order * order) × (length strip.old ≡ 64) }
+fn lay_row(
+    order: usize,
+    block: &[f64],
+    transpose: bool,
+    r: usize,
+    lane: usize,
+    strip: &mut [f64; STRIP],
+)
+    requires { (order ≤ 16) × (r < order) × (lane < 4) × (length block.now ≡ order * order) }
     ensures { strip.new ≡
         stores (λ s. lane + 4 * s) (directed transpose (matrix order block.now) r) order strip.old }
 {
@@ -52,42 +60,39 @@ fn lay_strip(
     transpose: bool,
     first: usize,
     rows: usize,
-    strip: &mut [f64],
+    strip: &mut [f64; STRIP],
 )
-    requires { (order ≤ 16) × (first + rows ≤ order) × (rows ≤ 4) × (length block.now ≡ order * order) × (length strip.old ≡ 64) }
+    requires { (order ≤ 16) × (first + rows ≤ order) × (rows ≤ 4) × (length block.now ≡ order * order) }
     ensures { StripOf order (directed transpose (matrix order block.now)) first rows strip.new }
 {
-    let mut k = 0;
-    while k < rows {
+    for k in 0..rows {
         lay_row(order, block, transpose, first + k, k, strip);
-        k += 1;
     }
 }
 
 // Adds one entry of the values, times its column of the strip, to the sums.
-fn add_column(value: f64, strip: &[f64], at: usize, sums: &mut [f64])
-    requires { (at + 4 ≤ length strip.now) × (length sums.old ≡ 4) }
+fn add_column(value: f64, strip: &[f64; STRIP], at: usize, sums: &mut [f64; LANES])
+    requires { at + 4 ≤ 64 }
     ensures { sums.new ≡ tabulate 4 (added value strip.now at sums.old) }
 {
-    let mut k = 0;
-    while k < LANES {
+    for k in 0..LANES {
         sums[k] = sums[k] + value * strip[at + k];
-        k += 1;
     }
 }
 
 // The sums of one column of the values with the strip's rows.
-fn sum_strip(order: usize, values: &[f64], from: usize, strip: &[f64], sums: &mut [f64])
-    requires { (order ≤ 16) × (from + order ≤ length values.now) × (length strip.now ≡ 64) ×
-        (sums.old ≡ tabulate 4 (λ k. zero₆₄)) }
+fn sum_strip(
+    order: usize,
+    values: &[f64],
+    from: usize,
+    strip: &[f64; STRIP],
+    sums: &mut [f64; LANES],
+)
+    requires { (order ≤ 16) × (from + order ≤ length values.now) × (sums.old ≡ tabulate 4 (λ k. zero₆₄)) }
     ensures { sums.new ≡ tabulate 4 (summed order values.now from strip.now) }
 {
-    let mut at = 0;
-    let mut s = 0;
-    while s < order {
-        add_column(values[from + s], strip, at, sums);
-        at += LANES;
-        s += 1;
+    for s in 0..order {
+        add_column(values[from + s], strip, s * LANES, sums);
     }
 }
 
@@ -96,23 +101,18 @@ fn pass_strip(
     order: usize,
     width: usize,
     values: &[f64],
-    strip: &[f64],
+    strip: &[f64; STRIP],
     rows: usize,
     out: &mut [f64],
 )
-    requires { (order ≤ 16) × (rows ≤ 4) × (length values.now ≡ width * order) × (length strip.now ≡ 64) ×
-        (length out.old ≡ rows * width) }
+    requires { (order ≤ 16) × (rows ≤ 4) × (length values.now ≡ width * order) × (length out.old ≡ rows * width) }
     ensures { out.new ≡
         column_major width rows (λ c. summed order values.now (c * order) strip.now) }
 {
-    let mut from = 0;
-    let mut c = 0;
-    while c < width {
-        let mut sums = [0.0; 4];
-        sum_strip(order, values, from, strip, &mut sums);
+    for c in 0..width {
+        let mut sums = [0.0; LANES];
+        sum_strip(order, values, c * order, strip, &mut sums);
         copy_spaced(rows, &sums, 0, 1, c, width, out);
-        from += order;
-        c += 1;
     }
 }
 
@@ -130,11 +130,11 @@ pub fn pass(
     ensures { out.new ≡
         passed order width (matrix order values.now) (directed transpose (matrix order block.now)) }
 {
-    let mut strip = [0.0; 64];
+    let mut strip = [0.0; STRIP];
     let mut at = 0;
     let mut r = 0;
     while r < order {
-        let rows = common::least(LANES, order - r);
+        let rows = LANES.min(order - r);
         let end = at + rows * width;
         lay_strip(order, block, transpose, r, rows, &mut strip);
         pass_strip(order, width, values, &strip, rows, &mut out[at..end]);

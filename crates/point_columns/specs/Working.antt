@@ -1,8 +1,7 @@
 -- What the private functions speak of; no public contract cites it.
-use Rattle.std.specs.Prelude.{◌≡◌, Bool, cond, List, ℕ, ◌*◌, ◌/◌, ◌^◌, Float, get_or}
+use Rattle.std.specs.Prelude.{Bool, cond, List, ℕ, ◌/◌, Float, get_or}
 use Rattle.std.specs.Float.{nan, binary64}
 use Rattle.std.specs.Float.Ieee.{of_int}
-use Rattle.common.specs.Refusals.{Shape}
 use Rattle.vectors.specs.declared.Vector.{Vector}
 use Rattle.vectors.specs.LookUps.{entries}
 use Rattle.point_columns.specs.Blocks.{node_on, on_target, on_source}
@@ -22,9 +21,3 @@ on_axis source l r x = cond source (on_source l r x) (on_target l x)
 -- row n and axis a of the points of a block that lies at this vector; a target's lies nowhere else
 abbrev pub block_point : (source : Bool) → (D p : ℕ) → (side : Float) → Vector → (nodes : List Float) → (n a : ℕ) → Float
 block_point source D p l v nodes n a = on_axis source l (offset v a) (node_on D p a nodes n)
-
--- the call is not refused: a shape, and lengths as stated
-pub record Fitting (D p nodes points : ℕ) : Type 0 where
-  pub shape : Shape D p
-  pub given : nodes ≡ p
-  pub whole : points ≡ D * p ^ D

@@ -3,21 +3,20 @@
 ghost use Rattle.std.specs.Prelude.{◌≡◌, ◌+◌, ◌*◌, ◌^◌, ◌<◌, ◌≤◌, length, get_or};
 ghost use Rattle.std.specs.Float.{nan};
 ghost use Rattle.common.specs.Lists.{stretch};
-ghost use Rattle.common.specs.Refusals.{Shape};
 ghost use Rattle.point_columns.specs.Blocks.{node_on};
 ghost use Rattle.point_columns.specs.Working.{cycled};
+
+use common::{Shape, power};
 
 // A run of each value, from place `at` on.
 fn fill_runs(order: usize, run: usize, values: &[f64; 16], at: usize, points: &mut [f64])
     requires { (order ≤ 16) × (at + order * run ≤ length points.old) }
     ensures { points.new ≡ stretch at (order * run) (cycled run values.now) points.old }
 {
-    let mut i = 0;
     let mut to = at;
-    while i < order {
+    for i in 0..order {
         common::fill_with(values[i], run, to, points);
         to += run;
-        i += 1;
     }
 }
 
@@ -36,25 +35,21 @@ fn fill_cycle(order: usize, run: usize, values: &[f64; 16], at: usize, points: &
 // The column of an axis, from place `at` on: as many cycles as there are nodes on the axes before it together, and
 // runs as long as there are nodes on the axes after it.
 pub(crate) fn fill_column(
-    dimension: usize,
-    order: usize,
+    shape: Shape,
     axis: usize,
     values: &[f64; 16],
     at: usize,
     points: &mut [f64],
 )
-    requires { Shape dimension order × (axis < dimension) × (at + order ^ dimension ≤ length points.old) }
-    ensures { points.new ≡
-        stretch at (order ^ dimension) (node_on dimension order axis values.now) points.old }
+    requires { (axis < shape.dimension) × (at + shape.order ^ shape.dimension ≤ length points.old) }
+    ensures { let dimension = shape.dimension in let order = shape.order in
+        points.new ≡ stretch at (order ^ dimension) (node_on dimension order axis values.now) points.old }
 {
-    let cycles = common::power(order, axis);
-    let run = common::power(order, dimension - 1 - axis);
-    let cycle = order * run;
-    let mut k = 0;
-    let mut to = at;
-    while k < cycles {
-        fill_cycle(order, run, values, to, points);
-        to += cycle;
-        k += 1;
+    let cycles = power(shape.order, axis);
+    let run = power(shape.order, shape.dimension - 1 - axis);
+    let cycle = shape.order * run;
+    for k in 0..cycles {
+        let to = at + k * cycle;
+        fill_cycle(shape.order, run, values, to, points);
     }
 }

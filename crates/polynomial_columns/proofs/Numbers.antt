@@ -1,10 +1,29 @@
 -- A column by its number: the first, the second, and the later ones, which have two columns before them. Assumes nothing.
 use mathlib.Core.Path.{◌≡◌, refl}
-use Prim.Native.Nat.{ℕ, zero, suc, ◌+◌, ◌*◌, ◌<◌, ◌≤◌}
+use mathlib.Core.List.{List}
+use Prim.Native.Nat.{ℕ, zero, suc, ◌+◌, ◌-◌, ◌*◌, ◌<◌, ◌≤◌}
 use native.Mathlib.Nat.{mul-le-mul}
 use native.Mathlib.Omega.{arith}
-use lib.Ieee.{Float}
+use lib.Ieee.{Float, nan}
+use lib.ListN.{length, get_or}
+use Rattle.common.specs.Lists.{stretch}
+use Rattle.common.proofs.Fill.{Filling, filling_before}
+use Rattle.common.proofs.Matrices.{next_column}
 use Rattle.polynomial_columns.specs.Working.{column_of}
+
+-- while a column is filled, the two before it are as they were
+pub both_before : (at rows : ℕ) (f : ℕ → Float) (start now : List Float) (i : ℕ) → Filling at rows f start now i → rows + rows ≤ at →
+    at + rows ≤ length start → i < rows →
+    (get_or now (at - rows + i) nan ≡ get_or start (at - rows + i) nan)
+    × (get_or now (at - rows - rows + i) nan ≡ get_or start (at - rows - rows + i) nan)
+both_before at rows f start now i h two fits l = (
+  filling_before at rows f start now i (at - rows + i) nan h (omega arith) (omega arith),
+  filling_before at rows f start now i (at - rows - rows + i) nan h (omega arith) (omega arith),
+)
+
+-- a column ends where the next begins
+pub column_end : (j rows long : ℕ) → (j + 1) * rows ≤ long → j * rows + rows ≤ long
+column_end j rows long h = let e = next_column j rows in omega arith
 
 -- from the third column on there are two columns before
 pub two_before : (j rows at : ℕ) → at ≡ j * rows → (j ≡ 0 → ⊥) → (j ≡ 1 → ⊥) → rows + rows ≤ at
@@ -31,3 +50,7 @@ unfolding column_of
 is_early f later zero h = refl
 is_early f later (suc zero) h = refl
 is_early f later (suc (suc j)) h = absurd (omega arith)
+
+-- the same column under its number
+pub in_place : (at rows : ℕ) (l : List Float) (f g : ℕ → Float) → g ≡ f → stretch at rows f l ≡ stretch at rows g l
+in_place at rows l f g e = rw e

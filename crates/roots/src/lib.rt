@@ -13,9 +13,6 @@ ghost use Rattle.roots.specs.Working.{least_normal, Scaled};
 
 use crate::whole::nearest_root;
 
-// The least f64 above 0 that is not subnormal: 2^-1022.
-const LEAST_NORMAL: f64 = 2.2250738585072014e-308;
-
 // 2^52, the leading digit of 53.
 const LEADING: u64 = 0x10_0000_0000_0000;
 
@@ -38,7 +35,7 @@ fn normal_root(x: f64) -> f64
     requires normal { T (le least_normal x) }
     ensures { Rounded x result }
 {
-    let bits = f64::to_bits(x);
+    let bits = x.to_bits();
     scaled_root(bits, bits / LEADING + 1021)
 }
 
@@ -49,8 +46,8 @@ fn subnormal_root(x: f64) -> f64
     requires subnormal { le least_normal x ≡ false }
     ensures { Rounded x result }
 {
-    let bits = f64::to_bits(x);
-    let zeros = u64::leading_zeros(bits) as u64 - 11;
+    let bits = x.to_bits();
+    let zeros = bits.leading_zeros() as u64 - 11;
     scaled_root((bits << zeros) + zeros % 2 * LEADING, 1022 - zeros)
 }
 
@@ -58,8 +55,8 @@ fn subnormal_root(x: f64) -> f64
 pub fn square_root(x: f64) -> f64
     ensures { SquareRoot x result }
 {
-    if LEAST_NORMAL <= x {
-        if x < 1.0 / 0.0 {
+    if f64::MIN_POSITIVE <= x {
+        if x < f64::INFINITY {
             return normal_root(x);
         }
         return x;
@@ -68,7 +65,7 @@ pub fn square_root(x: f64) -> f64
         return subnormal_root(x);
     }
     if x < 0.0 {
-        return 0.0 / 0.0;
+        return f64::NAN;
     }
     x
 }

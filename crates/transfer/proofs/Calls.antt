@@ -1,18 +1,16 @@
 -- What the call's number says, and what the call then answers and leaves. Assumes nothing.
-use mathlib.Core.Path.{◌≡◌, sym, ap, ◌∙◌}
+use mathlib.Core.Path.{◌≡◌, sym, ap}
 use mathlib.Core.Bool.{Bool, true, false, cond, ◌&&◌}
 use mathlib.Core.List.{List}
 use Prim.Native.Nat.{ℕ, ◌+◌, ◌-◌, ◌*◌, ◌^◌, ◌<◌, ◌≤◌}
 use lib.Dec.{ltb, eqb}
-use lib.Ieee.{Float, nan}
-use lib.ListN.{length, get_or}
+use lib.Ieee.{Float}
+use lib.ListN.{length}
 use borrow.Author.Tests.{eqb-true, lt-ltb, le-ltb, eq-eqb, ne_eqb}
-use Rattle.common.specs.Lists.{stretch}
 use Rattle.common.specs.Refusals.{Shape, shape_number}
 use Rattle.common.proofs.Cases.{equal_and}
-use Rattle.common.proofs.Limits.{shape_in, shape_out, call_refused₂, call_done₂, passed, shape_passed}
+use Rattle.common.proofs.Limits.{shape_out, shape_past, call_refused₂, call_done₂, passed, shape_passed}
 use Rattle.transfer.specs.Tensor.{along, ends, transfer_number, transferred, transfer_call}
-use Rattle.transfer.proofs.Axes.{copied}
 
 pub record Accepted (D p child i o f s : ℕ) : Type 0 where
   pub shape : Shape D p
@@ -26,17 +24,17 @@ module _ (D p child i o f s : ℕ) where
   unfolding transfer_number
   transfer_shape = shape_out D p _
 
-  module _ (ok : shape_number D p ≡ 0) where
+  module _ (taken : Shape D p) where
     pub transfer_child : 2 ^ D ≤ child → 5 ≡ transfer_number D p child i o f s
     unfolding transfer_number
-    transfer_child h = rw ((shape_in D p ok).0, (shape_in D p ok).1, le-ltb child (2 ^ D) h)
+    transfer_child h = rw (le-ltb child (2 ^ D) h) (sym (shape_past D p 5 taken))
 
     module _ (l : child < 2 ^ D) where
       -- the last test, once the others have passed
       lengths_tested : (t : Bool) → eqb i (p ^ D) && (eqb o ((p + p) * p) && (eqb f (p ^ D) && eqb s (p ^ D))) ≡ t →
           cond t 0 7 ≡ transfer_number D p child i o f s
       unfolding transfer_number
-      lengths_tested t e = rw ((shape_in D p ok).0, (shape_in D p ok).1, lt-ltb child (2 ^ D) l, e)
+      lengths_tested t e = rw (lt-ltb child (2 ^ D) l, e) (sym (shape_past D p (cond t 0 7) taken))
 
       pub transfer_input : (i ≡ p ^ D → ⊥) → 7 ≡ transfer_number D p child i o f s
       transfer_input h = lengths_tested false (rw (ne_eqb i (p ^ D) h))
@@ -72,12 +70,10 @@ module _ (D p child : ℕ) (transpose : Bool) (i o f s : List Float) (r : ℕ)
   transfer_refused = call_refused₂ r _ (transferred D p child transpose i o s).0 f (transferred D p child transpose i o s).1 s e
 
   -- the passes start from a copy of the input
-  pub transfer_done : (start f' s' : List Float) → r ≡ 0 → start ≡ stretch 0 (length i) (λ k. get_or i k nan) f →
+  pub transfer_done : (start f' s' : List Float) → r ≡ 0 → start ≡ i →
       (f', s') ≡ ends (along p (p ^ (D - 1)) child transpose o) D start s → (0, f', s') ≡ transfer_call D p child transpose i o f s
   unfolding transfer_call transferred
-  transfer_done start f' s' z hs h =
-      let taken = transfer_accepted D p child (length i) (length o) (length f) (length s) (rw (← e) z) in
-      let begun : start ≡ i = hs ∙ copied i f (taken.first ∙ sym taken.input) in
+  transfer_done start f' s' z begun h =
       let made : (f', s') ≡ transferred D p child transpose i o s = rw (← begun) h in
       call_done₂ r _ (transferred D p child transpose i o s).0 f (transferred D p child transpose i o s).1 s e f' s' z
       (ap (λ (x : List Float × List Float). x.0) made) (ap (λ (x : List Float × List Float). x.1) made)

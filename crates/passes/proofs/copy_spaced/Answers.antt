@@ -4,7 +4,7 @@ use mathlib.Core.List.{List}
 use Prim.Native.Nat.{◌+◌, ◌*◌}
 use native.Mathlib.Omega.{arith}
 use lib.Ieee.{Float}
-use lib.ListN.{set, length-set}
+use lib.ListN.{set}
 use Rattle.common.specs.Floats.{spaced}
 use Rattle.common.specs.Lists.{stores}
 use Rattle.common.proofs.Stores.{stores_more}
@@ -12,7 +12,7 @@ use Rattle.passes.proofs.copy_spaced.Goals as goal
 
 pub loop-k-init : goal.loop-k-init
 unfolding stores
-loop-k-init c = (omega arith, refl, refl)
+loop-k-init c = refl
 
 pub overflow_mul-out : goal.overflow_mul-out
 overflow_mul-out c = omega (arith, c.requires.0 c.loop-k.k c.loop-k-test.true, c.well_formed)
@@ -51,22 +51,16 @@ offset_bounds-out-at c = omega (
 )
 
 pub bounds-out-at : goal.bounds-out-at
-bounds-out-at c = rw c.loop-k.invariant.1 (c.requires.1 c.loop-k.k c.loop-k-test.true)
+bounds-out-at c = rw c.loop-k.auto.out (c.requires.1 c.loop-k.k c.loop-k-test.true)
 
 pub loop-k-preserved : goal.loop-k-preserved
 loop-k-preserved c =
     let l = c.loop-k in
-    let a = c.args in (
-      omega arith,
-      length-set l.out _ _ ∙ l.invariant.1,
-      ap (λ (o : List Float). set o (a.at + a.gap * l.k) (spaced a.source.now a.from a.step l.k)) l.invariant.2
-          ∙ stores_more (λ n. a.at + a.gap * n) (spaced a.source.now a.from a.step) l.k a.out.now,
-    )
-
-pub shape_of-out : goal.shape_of-out
-shape_of-out c = c.loop-k.invariant.1
+    let a = c.args in
+    ap (λ (o : List Float). set o (a.at + a.gap * l.k) (spaced a.source.now a.from a.step l.k)) l.invariant
+    ∙ stores_more (λ n. a.at + a.gap * n) (spaced a.source.now a.from a.step) l.k a.out.now
 
 pub returns : goal.returns
 returns c =
     let all : c.loop-k.k ≡ c.args.count = omega arith in
-    rw all at c.loop-k.invariant.2
+    rw all at c.loop-k.invariant

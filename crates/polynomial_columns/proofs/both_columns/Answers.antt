@@ -1,50 +1,57 @@
 -- `polynomial_columns::both_columns` meets its contract: by the column's number. Assumes nothing.
-use mathlib.Core.Path.{◌≡◌, ◌∙◌}
-use mathlib.Core.List.{List}
-use Prim.Native.Nat.{ℕ}
-use lib.Ieee.{Float}
-use Rattle.common.specs.Lists.{stretch}
-use Rattle.polynomial_columns.proofs.Numbers.{two_before, is_first, is_second, is_later}
+use mathlib.Core.Path.{refl, ◌∙◌}
+use Prim.Native.Nat.{◌*◌}
+use lib.ListN.{length}
+use native.Mathlib.Omega.{arith}
+use Rattle.polynomial_columns.proofs.Numbers.{column_end, two_before, is_first, is_second, is_later, in_place}
 use Rattle.polynomial_columns.proofs.both_columns.Goals as goal
 
--- the same column under its number
-in_place : (at rows : ℕ) (l : List Float) (f g : ℕ → Float) → g ≡ f → stretch at rows f l ≡ stretch at rows g l
-in_place at rows l f g e = rw e
+pub overflow_mul-at : goal.overflow_mul-at
+overflow_mul-at c = omega (arith, column_end c.args.j _ _ c.requires.0, c.well_formed)
+
+pub fill_with-requires : goal.fill_with-requires
+fill_with-requires c = column_end c.args.j _ _ c.requires.0
+
+pub fill_with-requires-then-j-eq0 : goal.fill_with-requires-then-j-eq0
+fill_with-requires-then-j-eq0 c = column_end c.args.j _ _ c.requires.1
+
+pub copy_column-requires : goal.copy_column-requires
+copy_column-requires c = (omega arith, column_end c.args.j _ _ c.requires.0)
 
 pub next_columns-requires : goal.next_columns-requires
 next_columns-requires c =
     let a = c.args in (
-      c.requires.0,
-      two_before a.j a.rows a.at c.requires.1 c.if-j-eq0.false
-          c.if-j-eq1.false,
-      c.requires.2,
-      c.requires.3,
+      two_before a.j _ _ refl c.if-j-eq0.false c.if-j-eq1.false,
+      column_end a.j _ _ c.requires.0,
+      column_end a.j _ _ c.requires.1,
     )
 
 pub returns-then-j-eq0 : goal.returns-then-j-eq0
 returns-then-j-eq0 c =
     let a = c.args in
+    let rows = length a.points.now in
+    let at = a.j * rows in
     let here = c.if-j-eq0.true in (
-      c.fill_with.ensures
-          ∙ in_place a.at a.rows a.tn.now _ _ (is_first _ _ _ a.j here),
-      c.fill_with-then-j-eq0.ensures ∙ in_place a.at a.rows a.dtn.now _ _ (is_first _ _ _ a.j here),
+      c.fill_with.ensures ∙ in_place at rows a.tn.now _ _ (is_first _ _ _ a.j here),
+      c.fill_with-then-j-eq0.ensures ∙ in_place at rows a.dtn.now _ _ (is_first _ _ _ a.j here),
     )
 
 pub returns-then-j-eq1 : goal.returns-then-j-eq1
 returns-then-j-eq1 c =
     let a = c.args in
+    let rows = length a.points.now in
+    let at = a.j * rows in
     let here = c.if-j-eq1.true in (
-      c.copy_column.ensures
-          ∙ in_place a.at a.rows a.tn.now _ _ (is_second _ _ _ a.j here),
-      c.fill_with-then-j-eq1.ensures ∙ in_place a.at a.rows a.dtn.now _ _ (is_second _ _ _ a.j here),
+      c.copy_column.ensures ∙ in_place at rows a.tn.now _ _ (is_second _ _ _ a.j here),
+      c.fill_with-then-j-eq1.ensures ∙ in_place at rows a.dtn.now _ _ (is_second _ _ _ a.j here),
     )
 
 pub returns-else-j-eq1 : goal.returns-else-j-eq1
 returns-else-j-eq1 c =
     let a = c.args in
-    let call = c.next_columns in
-    let not_first = c.if-j-eq0.false in
-    let not-second = c.if-j-eq1.false in (
-      call.ensures.0 ∙ in_place a.at a.rows a.tn.now _ _ (is_later _ _ _ a.j not_first not-second),
-      call.ensures.1 ∙ in_place a.at a.rows a.dtn.now _ _ (is_later _ _ _ a.j not_first not-second),
+    let rows = length a.points.now in
+    let at = a.j * rows in
+    let e = c.next_columns.ensures in (
+      e.0 ∙ in_place at rows a.tn.now _ _ (is_later _ _ _ a.j c.if-j-eq0.false c.if-j-eq1.false),
+      e.1 ∙ in_place at rows a.dtn.now _ _ (is_later _ _ _ a.j c.if-j-eq0.false c.if-j-eq1.false),
     )

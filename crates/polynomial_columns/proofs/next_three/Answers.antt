@@ -1,53 +1,46 @@
 -- `polynomial_columns::next_three` meets its contract. The loop keeps `Filling` of three buffers: i rows hold the next values, and the
 -- columns before are as they were. Assumes nothing.
-use mathlib.Core.Path.{◌≡◌, refl}
-use Prim.Native.Nat.{◌+◌, ◌-◌}
-use native.Mathlib.Omega.{arith}
+use mathlib.Core.Path.{refl}
 use lib.Ieee.{nan}
-use lib.ListN.{get_or}
-use Rattle.common.proofs.Fill.{filling_none, filling_more, filling_done, filling_before}
+use lib.ListN.{length}
+use Rattle.common.proofs.Fill.{filling_none, filling_more, filling_done}
 use Rattle.polynomial_columns.specs.Working.{later_T, later_T', later_T''}
+use Rattle.polynomial_columns.proofs.Numbers.{both_before}
 use Rattle.polynomial_columns.proofs.next_three.Goals as goal
 
 pub loop-i-init : goal.loop-i-init
 loop-i-init c =
-    let a = c.args in (
-      filling_none a.at a.rows (later_T a.rows a.points.now a.tn.now a.at) _,
-      filling_none a.at a.rows (later_T' a.rows a.points.now a.tn.now a.dtn.now a.at) _,
-      filling_none a.at a.rows (later_T'' a.rows a.points.now a.dtn.now a.ddtn.now a.at) _,
+    let a = c.args in
+    let rows = length a.points.now in (
+      filling_none a.at rows (later_T rows a.points.now a.tn.now a.at) _,
+      filling_none a.at rows (later_T' rows a.points.now a.tn.now a.dtn.now a.at) _,
+      filling_none a.at rows (later_T'' rows a.points.now a.dtn.now a.ddtn.now a.at) _,
     )
 
 pub loop-i-preserved : goal.loop-i-preserved
 loop-i-preserved c =
     let a = c.args in
     let l = c.loop-i in
-    let f = later_T a.rows a.points.now a.tn.now a.at in
-    let g = later_T' a.rows a.points.now a.tn.now a.dtn.now a.at in
-    let h = later_T'' a.rows a.points.now a.dtn.now a.ddtn.now a.at in
-    let value : get_or l.tn (a.at - a.rows + l.i) nan ≡ get_or a.tn.now (a.at - a.rows + l.i) nan =
-    filling_before a.at a.rows f _ _ _ _ nan l.invariant.0 (omega (arith, c.requires)) (omega (arith, c.requires)) in
-    let value' : get_or l.tn (a.at - a.rows - a.rows + l.i) nan ≡ get_or a.tn.now (a.at - a.rows - a.rows + l.i) nan =
-    filling_before a.at a.rows f _ _ _ _ nan l.invariant.0 (omega (arith, c.requires)) (omega (arith, c.requires)) in
-    let slope : get_or l.dtn (a.at - a.rows + l.i) nan ≡ get_or a.dtn.now (a.at - a.rows + l.i) nan =
-    filling_before a.at a.rows g _ _ _ _ nan l.invariant.1 (omega (arith, c.requires)) (omega (arith, c.requires)) in
-    let slope' : get_or l.dtn (a.at - a.rows - a.rows + l.i) nan ≡ get_or a.dtn.now (a.at - a.rows - a.rows + l.i) nan =
-    filling_before a.at a.rows g _ _ _ _ nan l.invariant.1 (omega (arith, c.requires)) (omega (arith, c.requires)) in
-    let bend : get_or l.ddtn (a.at - a.rows + l.i) nan ≡ get_or a.ddtn.now (a.at - a.rows + l.i) nan =
-    filling_before a.at a.rows h _ _ _ _ nan l.invariant.2 (omega (arith, c.requires)) (omega (arith, c.requires)) in
-    let bend' : get_or l.ddtn (a.at - a.rows - a.rows + l.i) nan ≡ get_or a.ddtn.now (a.at - a.rows - a.rows + l.i) nan =
-    filling_before a.at a.rows h _ _ _ _ nan l.invariant.2 (omega (arith, c.requires)) (omega (arith, c.requires)) in (
-      filling_more a.at a.rows f _ _ _ _ nan _ l.invariant.0 c.loop-i-test.true c.requires.2 refl (rw (value, value')),
-      filling_more a.at a.rows g _ _ _ _ nan _ l.invariant.1 c.loop-i-test.true c.requires.3 refl (rw (value, slope, slope')),
-      filling_more a.at a.rows h _ _ _ _ nan _ l.invariant.2 c.loop-i-test.true c.requires.4 refl (rw (slope, bend, bend')),
+    let r = c.requires in
+    let rows = length a.points.now in
+    let f = later_T rows a.points.now a.tn.now a.at in
+    let g = later_T' rows a.points.now a.tn.now a.dtn.now a.at in
+    let h = later_T'' rows a.points.now a.dtn.now a.ddtn.now a.at in
+    let t = both_before a.at rows f _ _ _ l.invariant.0 r.0 r.1 c.loop-i-test.true in
+    let d = both_before a.at rows g _ _ _ l.invariant.1 r.0 r.2 c.loop-i-test.true in
+    let s = both_before a.at rows h _ _ _ l.invariant.2 r.0 r.3 c.loop-i-test.true in (
+      filling_more a.at rows f _ _ _ _ nan _ l.invariant.0 c.loop-i-test.true r.1 refl (rw (t.0, t.1)),
+      filling_more a.at rows g _ _ _ _ nan _ l.invariant.1 c.loop-i-test.true r.2 refl (rw (t.0, d.0, d.1)),
+      filling_more a.at rows h _ _ _ _ nan _ l.invariant.2 c.loop-i-test.true r.3 refl (rw (d.0, s.0, s.1)),
     )
 
 pub returns : goal.returns
 returns c =
-    let a = c.args in (
-      filling_done a.at a.rows (later_T a.rows a.points.now a.tn.now a.at) _ _ _ c.loop-i.invariant.0
-          c.loop-i-test.false,
-      filling_done a.at a.rows (later_T' a.rows a.points.now a.tn.now a.dtn.now a.at) _ _ _
-          c.loop-i.invariant.1 c.loop-i-test.false,
-      filling_done a.at a.rows (later_T'' a.rows a.points.now a.dtn.now a.ddtn.now a.at) _ _ _
-          c.loop-i.invariant.2 c.loop-i-test.false,
+    let a = c.args in
+    let i = c.loop-i.invariant in
+    let rows = length a.points.now in
+    let done = c.loop-i-test.false in (
+      filling_done a.at rows (later_T rows a.points.now a.tn.now a.at) _ _ _ i.0 done,
+      filling_done a.at rows (later_T' rows a.points.now a.tn.now a.dtn.now a.at) _ _ _ i.1 done,
+      filling_done a.at rows (later_T'' rows a.points.now a.dtn.now a.ddtn.now a.at) _ _ _ i.2 done,
     )

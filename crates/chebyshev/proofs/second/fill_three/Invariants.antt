@@ -1,7 +1,7 @@
 -- `chebyshev::second::fill_three` meets its contract. The loop keeps: the columns before j are filled in three buffers, and the rest is as
 -- it was. Assumes nothing.
 use mathlib.Core.Path.{◌≡◌}
-use Prim.Native.Nat.{◌-◌, ◌*◌, ◌≤◌}
+use Prim.Native.Nat.{◌*◌}
 use lib.Ieee.{nan}
 use lib.ListN.{length, get_or}
 use Rattle.common.specs.Lists.{stretch}
@@ -11,10 +11,8 @@ use Rattle.chebyshev.proofs.second.fill_three.Given as goal
 
 abbrev pub invariant-loop-j : goal.invariant-loop-j
 invariant-loop-j l =
-    (l.j ≤ l.order) × (l.at ≡ l.j * l.rows) × (length l.tn ≡ length l.initial.tn) × (length l.dtn ≡ length l.initial.dtn) × (length l.ddtn ≡ length l.initial.ddtn) ×
-    (l.tn ≡ stretch 0 l.at (cell l.rows (λ i k. T k (get_or l.points i nan))) l.initial.tn)
-    × (l.dtn ≡ stretch 0 l.at (cell l.rows (λ i k. T' k (get_or l.points i nan))) l.initial.dtn)
-    × (l.ddtn ≡ stretch 0 l.at (cell l.rows (λ i k. T'' k (get_or l.points i nan))) l.initial.ddtn)
-
-abbrev pub decreases-loop-j : goal.decreases-loop-j
-decreases-loop-j l = l.order - l.j
+    let rows = length l.points in
+    let at = l.j * rows in
+    (l.tn ≡ stretch 0 at (cell rows (λ i k. T k (get_or l.points i nan))) l.initial.tn)
+    × (l.dtn ≡ stretch 0 at (cell rows (λ i k. T' k (get_or l.points i nan))) l.initial.dtn)
+    × (l.ddtn ≡ stretch 0 at (cell rows (λ i k. T'' k (get_or l.points i nan))) l.initial.ddtn)

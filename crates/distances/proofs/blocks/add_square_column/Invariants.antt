@@ -1,6 +1,6 @@
 -- `distances::blocks::add_square_column` meets its contract. The loop keeps `Filling`: i rows have their sums. Assumes nothing.
 use mathlib.Core.List.{List}
-use Prim.Native.Nat.{ℕ, ◌+◌, ◌-◌}
+use Prim.Native.Nat.{ℕ, ◌+◌}
 use lib.Ieee.{Float, nan}
 use lib.ListN.{get_or}
 use Rattle.common.specs.Floats.{plus}
@@ -13,6 +13,3 @@ sum_at column sources from x i = plus (get_or column i nan) (apart (get_or sourc
 
 abbrev pub invariant-loop-i : goal.invariant-loop-i
 invariant-loop-i l = Filling 0 l.rows (sum_at l.initial.column l.sources l.from l.coordinate) l.initial.column l.column l.i
-
-abbrev pub decreases-loop-i : goal.decreases-loop-i
-decreases-loop-i l = l.rows - l.i

@@ -1,5 +1,4 @@
 -- `distances::blocks::square_column` meets its contract. The loop keeps `Filling`: i rows have their squares. Assumes nothing.
-use Prim.Native.Nat.{◌-◌}
 use lib.Ieee.{nan}
 use lib.ListN.{get_or}
 use Rattle.common.proofs.Fill.{Filling}
@@ -8,6 +7,3 @@ use Rattle.distances.proofs.blocks.square_column.Given as goal
 
 abbrev pub invariant-loop-i : goal.invariant-loop-i
 invariant-loop-i l = Filling 0 l.rows (λ j. apart (get_or l.sources j nan) l.coordinate) l.initial.column l.column l.i
-
-abbrev pub decreases-loop-i : goal.decreases-loop-i
-decreases-loop-i l = l.rows - l.i

@@ -1,41 +1,59 @@
--- `nodes::sets::generate_node_set` meets its contract: an unknown set is refused, and for a known one the call with no set is made, and
--- in set 1 what it left is mirrored. Assumes nothing.
-use mathlib.Core.Path.{sym, ap, ◌∙◌}
-use lib.ListN.{length}
-use Rattle.common.proofs.Fill.{length_tabulate}
-use Rattle.node_rows.specs.Rows.{node}
-use Rattle.nodes.proofs.SetCalls.{set_refused, set_unknown, default_refused, default_done, set_mirrored, set_plain}
+-- `nodes::sets::generate_node_set` meets its contract: refused, or filled with the Rust's nodes, which for the mirror-exact set are
+-- mirrored. Assumes nothing.
+use mathlib.Core.Bool.{true, false}
+use mathlib.Core.Path.{◌≡◌, sym, refl, ap, ◌∙◌}
+use native.Mathlib.Omega.{arith}
+use Rattle.common.proofs.Numbers.{handed_on, number_above}
+use Rattle.common.specs.Numbers.{number}
+use Rattle.nodes.specs.NodeSets.{number_of}
+use Rattle.nodes.specs.declared.sets.NodeSet.{NodeSet}
+use Rattle.nodes.specs.declared.sets.NodeSet.TheVariants.{Rust, MirrorExact}
+use Rattle.nodes.specs.contracts.sets.NodeSet.{the_type}
+use denote.Enum.Bare.{sameb}
+use Rattle.nodes.proofs.Calls.{nodes_accepted}
+use Rattle.nodes.proofs.SetCalls.{set_refused, set_unknown, set_known}
 use Rattle.nodes.proofs.sets.generate_node_set.Goals as goal
 
-pub returns-then-refused-ne0 : goal.returns-then-refused-ne0
-returns-then-refused-ne0 c =
-    let a = c.args in
-    set_refused a.order a.set a.nodes.now _ c.nodes_number-refused.ensures c.if-refused-ne0.true
+-- what the test for the mirror-exact set says of its number
+exact_one : (s : NodeSet) → true ≡ sameb the_type s MirrorExact → number_of s ≡ 1
+exact_one Rust e = cc
+exact_one MirrorExact e = refl
 
-pub returns-then-set-gt1 : goal.returns-then-set-gt1
-returns-then-set-gt1 c =
-    let a = c.args in
-    set_unknown a.order a.set a.nodes.now (sym c.nodes_number-refused.ensures ∙ c.if-refused-ne0.false) c.if-set-gt1.true
+rust_zero : (s : NodeSet) → false ≡ sameb the_type s MirrorExact → number_of s ≡ 0
+rust_zero Rust e = refl
+rust_zero MirrorExact e = cc
 
-pub returns-then-number-ne0 : goal.returns-then-number-ne0
-returns-then-number-ne0 c =
+pub returns-in_err-check_nodes : goal.returns-in_err-check_nodes
+returns-in_err-check_nodes c =
     let a = c.args in
-    default_refused a.order a.set a.nodes.now _ _ c.generate_chebyshev_nodes-number.ensures c.if-number-ne0.true
+    let e = handed_on _ _ c.from_residual.ensures.1 in
+    set_refused a.order a.set a.nodes.now _ (e ∙ c.in_err-check_nodes.ensures)
+    (λ z. omega (arith, number_above c.in_err-check_nodes.field-0.0, e, z))
+
+pub returns-in_err-set : goal.returns-in_err-set
+returns-in_err-set c =
+    let a = c.args in
+    let e = handed_on _ _ c.from_residual-in_err-set.ensures.1 ∙ ap number c.in_err-set.ensures.0 in
+    rw e (set_unknown a.order a.set a.nodes.now (sym c.in_ok-check_nodes.ensures) c.in_err-set.ensures.1)
+
+pub fill_nodes-requires : goal.fill_nodes-requires
+fill_nodes-requires c =
+    let t = nodes_accepted c.args.order _ (sym c.in_ok-check_nodes.ensures) in rw t.2 (t.0, t.1)
 
 pub mirror_nodes-requires : goal.mirror_nodes-requires
-mirror_nodes-requires c =
-    let a = c.args in
-    let t = default_done a.order a.set a.nodes.now _ _ c.generate_chebyshev_nodes-number.ensures c.if-number-ne0.false in
-    (t.0, t.1, ap length t.2 ∙ length_tabulate a.order (node a.order), t.2)
+mirror_nodes-requires c = rw c.fill_nodes.auto.nodes c.fill_nodes.ensures
 
-pub returns-then-set-eq1 : goal.returns-then-set-eq1
-returns-then-set-eq1 c =
+pub returns-then-eq : goal.returns-then-eq
+returns-then-eq c =
     let a = c.args in
-    set_mirrored a.order a.set a.nodes.now _ _ c.generate_chebyshev_nodes-number.ensures c.if-number-ne0.false _
-    c.if-set-eq1.true c.mirror_nodes.ensures
+    let z = sym c.in_ok-check_nodes.ensures in
+    let long = c.fill_nodes.auto.nodes ∙ (nodes_accepted a.order _ z).2 in
+    let one : a.set ≡ 1 = sym c.in_ok-set.ensures ∙ exact_one c.in_ok-set.set c.if-eq.ensures in
+    set_known a.order a.set a.nodes.now _ z (omega arith) (rw one (rw long at c.mirror_nodes.ensures))
 
-pub returns-else-set-eq1 : goal.returns-else-set-eq1
-returns-else-set-eq1 c =
+pub returns-else-eq : goal.returns-else-eq
+returns-else-eq c =
     let a = c.args in
-    set_plain a.order a.set a.nodes.now _ _ c.generate_chebyshev_nodes-number.ensures c.if-number-ne0.false
-    c.if-set-gt1.false c.if-set-eq1.false
+    let z = sym c.in_ok-check_nodes.ensures in
+    let none : a.set ≡ 0 = sym c.in_ok-set.ensures ∙ rust_zero c.in_ok-set.set c.if-eq.ensures in
+    set_known a.order a.set a.nodes.now _ z (omega arith) (rw none (rw (nodes_accepted a.order _ z).2 at c.fill_nodes.ensures))

@@ -1,8 +1,6 @@
--- `point_columns::blocks::fill_points` meets its contract. The loop keeps `Stepping`: the columns before `axis` are filled; and the values
--- keep
--- their length. Assumes nothing.
+-- `point_columns::blocks::fill_points` meets its contract. The loop keeps `Stepping`: the columns before `axis` are filled; and the
+-- values keep their length. Assumes nothing.
 use mathlib.Core.Path.{◌≡◌}
-use Prim.Native.Nat.{◌-◌}
 use lib.ListN.{length}
 use Rattle.common.specs.Matrices.{cell}
 use Rattle.common.proofs.Steps.{Stepping}
@@ -11,8 +9,6 @@ use Rattle.point_columns.proofs.blocks.fill_points.Given as goal
 
 abbrev pub invariant-loop-axis : goal.invariant-loop-axis
 invariant-loop-axis l =
-    (length l.values ≡ 16) × Stepping 0 l.dimension l.rows (cell l.rows (block_point l.is_source l.dimension l.order l.side l.vector l.nodes)) l.initial.points l.points l.axis
-    l.at
-
-abbrev pub decreases-loop-axis : goal.decreases-loop-axis
-decreases-loop-axis l = l.dimension - l.axis
+    let s = l.shape in
+    let entries = cell l.rows (block_point l.is_source s.dimension s.order l.side l.vector l.nodes) in
+    (length l.values ≡ 16) × Stepping 0 s.dimension l.rows entries l.initial.points l.points l.axis l.at

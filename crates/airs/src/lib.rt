@@ -5,7 +5,7 @@ ghost use Rattle.std.specs.Prelude.{◌≡◌};
 ghost use Rattle.airs.specs.Airs.{air_of, number_of};
 
 // How much of each gas there is at a point.
-#[derive(Drop)]
+#[derive(Clone, Copy)]
 pub struct Gases {
     pub carbon_monoxide: f64,
     pub nitrogen: f64,

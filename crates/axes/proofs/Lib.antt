@@ -1,2 +1,4 @@
+pub mod Accepted
+pub mod Limits
 pub mod Stretches
 pub mod Determined

@@ -3,7 +3,7 @@ use mathlib.Core.Path.{◌≡◌, refl, sym, ap, ◌∙◌}
 use mathlib.Core.Bool.{Bool, true, false, cond}
 use mathlib.Core.List.{List}
 use Prim.Native.Nat.{ℕ, ◌+◌, ◌-◌, ◌*◌, ◌/◌, ◌%◌, ◌<◌, ◌≤◌}
-use native.Mathlib.Nat.{mod-lt, div-lt_iff_lt-mul}
+use native.Mathlib.Nat.{add-zero, zero-mul, mod-lt, div-lt_iff_lt-mul}
 use native.Mathlib.Omega.{arith}
 use lib.Arith.{digits_div, digits_mod}
 use lib.Ieee.{Float, nan}
@@ -14,33 +14,47 @@ use Rattle.common.specs.Matrices.{cell, column_major}
 use Rattle.common.specs.Refusals.{size_if}
 use Rattle.common.proofs.Fill.{stretch_none, part_read, stretch_inside, stretch_cong, stretch_again, fill_on}
 use Rattle.common.proofs.Matrices.{some_rows, cell_block, column_entry, columns_filled}
+use Rattle.common.proofs.Steps.{Stepping, stepping_none}
 use Rattle.common.proofs.Sums.{sums_cong}
 use Rattle.common.specs.Matrices.{matrix}
 use Rattle.chebyshev.specs.Polynomials.{at_points}
-use Rattle.axes.specs.Axes.{on_axes}
-use Rattle.axes.specs.Axes.{sum_of}
+use Rattle.axes.specs.Axes.{on_axes, sum_of, sums_of}
 
 -- the n entries of a list from place `at` on, as they are lent
 abbrev pub part : (list : List Float) (at n : ℕ) → List Float
 part list at n = take (at + n - at) (drop at list)
 
+-- A LOOP over stretches of one size, whose place is the turn times the size
+
+module _ (n count size : ℕ) (f : ℕ → Float) (before : List Float) where
+  pub stepping_first : Stepping n count size f before before 0 (n + 0 * size)
+  stepping_first = rw (zero-mul size, add-zero n) (stepping_none n count size f before)
+
+  pub stepping_next : (after : List Float) (to i : ℕ) → Stepping n count size f before after (i + 1) to →
+      Stepping n count size f before after (i + 1) (n + (i + 1) * size)
+  stepping_next after to i h = rw (← h.place) h
+
 -- S OF AN AXIS: its sums, finished
+
+-- what is made of entries in place is made of what was stored there
+pub made_of_stored : (f : Float → Float) (at n : ℕ) (g : ℕ → Float) (l stored next : List Float) → at + n ≤ length l →
+    stored ≡ stretch at n g l → next ≡ stretch at n (λ k. f (get_or stored (at + k) nan)) stored → next ≡ stretch at n (λ k. f (g k)) l
+made_of_stored f at n g l stored next fits s e =
+    let entry : (k : ℕ) → k < n → f (get_or stored (at + k) nan) ≡ f (g k) =
+    λ k b. ap f (rw s (stretch_inside at g l n k nan b (omega arith))) in
+    e ∙ stretch_cong at n _ (λ k. f (g k)) stored entry ∙ rw s (stretch_again at n _ (λ k. f (g k)) l fits)
 
 module _ (t : ℕ → Float → Float) (finish : Float → Float) (p P : ℕ) (x polynomials : List Float) where
   abbrev pub finished : (i n : ℕ) → Float
   finished i n = finish (sums p (λ k. times (t k (get_or x i nan)) (matrix p polynomials n k)))
 
-  pub axis_finished : (columns l summed next : List Float) (at : ℕ) → columns ≡ at_points t p P x → at + p * P ≤ length l →
-      summed ≡ stretch at (p * P) (cell P (sum_of p P columns polynomials)) l →
-      next ≡ stretch at (p * P) (λ k. finish (get_or summed (at + k) nan)) summed → next ≡ stretch at (p * P) (cell P finished) l
-  axis_finished columns l summed next at c fits s e =
+  pub axis_finished : (columns l next : List Float) (at : ℕ) → columns ≡ at_points t p P x →
+      next ≡ stretch at (p * P) (λ k. finish (sums_of p P columns polynomials k)) l → next ≡ stretch at (p * P) (cell P finished) l
+  axis_finished columns l next at c e =
       let sum : (i n : ℕ) → i < P → sum_of p P columns polynomials i n ≡ sums p
       (λ k. times (t k (get_or x i nan)) (matrix p polynomials n k)) =
       λ i n b. sums_cong p _ _ (λ k m. rw (c, column_entry P (λ r j. t j (get_or x r nan)) p i k nan b m)) in
-      let entry : (k : ℕ) → k < p * P → finish (get_or summed (at + k) nan) ≡ cell P finished k =
-      λ k b. ap finish (rw s (stretch_inside at (cell P (sum_of p P columns polynomials)) l (p * P) k nan b (omega arith))
-      ∙ sum (k % P) (k / P) (mod-lt k (some_rows p P k b))) in
-      e ∙ stretch_cong at (p * P) _ (cell P finished) summed entry ∙ rw s (stretch_again at (p * P) _ (cell P finished) l fits)
+      e ∙ stretch_cong at (p * P) _ (cell P finished) l (λ k b. ap finish (sum (k % P) (k / P) (mod-lt k (some_rows p P k b))))
 
 -- A BUFFER that is filled if it is wanted
 

@@ -1,8 +1,9 @@
 -- What the coefficients need of an axis: S and S' at a reference coordinate.
-use Rattle.std.specs.Prelude.{◌≡◌, Bool, List, ℕ, ◌*◌, ◌/◌, ◌%◌, ◌≤◌, Float}
+use Rattle.std.specs.Prelude.{◌≡◌, Bool, List, ℕ, ◌+◌, ◌*◌, ◌/◌, ◌%◌, ◌≤◌, leb, Float}
 use Rattle.common.specs.Floats.{minus, times, over, one₆₄, two₆₄, float, inner, sums}
+use Rattle.common.specs.Lists.{stretch}
 use Rattle.common.specs.Matrices.{cell, matrix}
-use Rattle.common.specs.Refusals.{Shape, most_points, size_if}
+use Rattle.common.specs.Refusals.{no_dimension, no_order, no_count, unless, is_dimension, is_order, most_points, size_if}
 use Rattle.polynomial_columns.specs.Recurrence.{T, T'}
 
 -- S of a sum: (sum*2 - 1)/p; and S': (sum*(2/p))*(2/side)
@@ -36,10 +37,23 @@ sum_of p P columns polynomials i n = sums p (term_of p P columns polynomials n i
 abbrev pub sums_of : (p P : ℕ) → (columns polynomials : List Float) → (k : ℕ) → Float
 sums_of p P columns polynomials = cell P (sum_of p P columns polynomials)
 
+-- what f makes of them, in place of a stretch
+abbrev pub made_at : (f : Float → Float) → (at p P : ℕ) → (columns polynomials : List Float) → List Float → List Float
+made_at f at p P columns polynomials = stretch at (p * P) (λ k. f (sums_of p P columns polynomials k))
+
+-- The lengths with which the columns of one axis are filled, from place `at` on: of polynomials, node polynomials and the buffer.
+pub record ColumnsFit (p P at c t l : ℕ) : Type 0 where
+  pub columns : c ≡ p * P
+  pub polynomials : t ≡ p * p
+  pub room : at + p * P ≤ l
+
+-- THE NUMBER that a shape and so many points bring, or 0
+unfoldable pub grid_number : (D p P : ℕ) → ℕ
+grid_number D p P =
+    unless (is_dimension D) no_dimension (unless (is_order p) no_order (unless (leb P most_points) no_count 0))
+
 -- The lengths with which S and S' of all axes are filled: of points, node polynomials, room to work in, factors and slopes.
 pub record AxesFit (D p P : ℕ) (with : Bool) (n t v g f d : ℕ) : Type 0 where
-  pub shape : Shape D p
-  pub few : P ≤ most_points
   pub points : n ≡ D * P
   pub polynomials : t ≡ p * p
   pub values : p * P ≤ v

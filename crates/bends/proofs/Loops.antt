@@ -2,7 +2,7 @@
 use mathlib.Core.Path.{◌≡◌, refl, ◌∙◌}
 use mathlib.Core.List.{List}
 use Prim.Native.Nat.{ℕ, zero, suc, ◌+◌, ◌-◌, ◌*◌, ◌<◌, ◌≤◌}
-use native.Mathlib.Nat.{mul_assoc}
+use native.Mathlib.Nat.{zero-add, mul_assoc}
 use native.Mathlib.Numerals.{add-one}
 use native.Mathlib.Omega.{arith}
 use lib.Ieee.{Float, nan}
@@ -12,26 +12,31 @@ use Rattle.common.proofs.Fill.{part_read}
 use Rattle.common.proofs.Matrices.{column_cong, columns_filled}
 use Rattle.common.proofs.Steps.{Stepping, stepping_more, stepping_done}
 use Rattle.polynomial_columns.specs.Recurrence.{T, T', T''}
-use Rattle.axes.proofs.Stretches.{part, axes_at, axis_block}
+use Rattle.axes.proofs.Stretches.{stepping_first, stepping_next, part, axes_at, axis_block}
 use Rattle.bends.specs.Bends.{room_of}
 use Rattle.bends.specs.Working.{columns_at, room_after}
 
 -- ONE BUFFER: S, S' or S''
 
-module _ (t : ℕ → Float → Float) (D p P : ℕ) (points before : List Float) (long : length before ≡ D * p * P) where
+module _ (t : ℕ → Float → Float) (D p P : ℕ) (points before : List Float) where
   abbrev pub AxesDone : (now : List Float) → (axis at : ℕ) → Type 0
   AxesDone now axis at = Stepping 0 D (p * P) (cell P (axes_at t p P points)) before now axis at
 
-  pub axis_more : (now after : List Float) (axis from at : ℕ) → AxesDone now axis at → axis < D → from ≡ axis * P →
-      after ≡ columns_at at p P t (part points from P) now → AxesDone after (axis + 1) (at + p * P)
-  axis_more now after axis from at h l e f =
-      stepping_more 0 D (p * P) (cell P (axes_at t p P points)) before now after axis at _ h l (rw (long, mul_assoc) (omega arith))
-      (axis_block t p P points axis from e) f
+  pub axis_first : AxesDone before 0 (0 + 0 * (p * P))
+  axis_first = stepping_first 0 D (p * P) (cell P (axes_at t p P points)) before
 
-  pub axes_done : (now : List Float) (axis at : ℕ) → AxesDone now axis at → D ≤ axis → now ≡ column_major P (D * p) (axes_at t p P points)
-  axes_done now axis at h l =
-      rw (← mul_assoc) at (stepping_done 0 D (p * P) (cell P (axes_at t p P points)) before now axis at h l)
-      ∙ columns_filled P (axes_at t p P points) (D * p) before long
+  module _ (long : length before ≡ D * p * P) where
+    pub axis_more : (now after : List Float) (axis : ℕ) → AxesDone now axis (0 + axis * (p * P)) → axis < D →
+        after ≡ columns_at (axis * (p * P)) p P t (part points (axis * P) P) now → AxesDone after (axis + 1) (0 + (axis + 1) * (p * P))
+    axis_more now after axis h l f =
+        stepping_next 0 D (p * P) (cell P (axes_at t p P points)) before after _ axis
+        (stepping_more 0 D (p * P) (cell P (axes_at t p P points)) before now after axis _ _ h l (rw (long, mul_assoc) (omega arith))
+        (axis_block t p P points axis (axis * P) refl) (rw (← zero-add (axis * (p * P))) at f))
+
+    pub axes_done : (now : List Float) (axis at : ℕ) → AxesDone now axis at → D ≤ axis → now ≡ column_major P (D * p) (axes_at t p P points)
+    axes_done now axis at h l =
+        rw (← mul_assoc) at (stepping_done 0 D (p * P) (cell P (axes_at t p P points)) before now axis at h l)
+        ∙ columns_filled P (axes_at t p P points) (D * p) before long
 
 -- THE ROOM
 

@@ -7,17 +7,24 @@ use native.Mathlib.Omega.{arith}
 use lib.Ieee.{Float, nan}
 use lib.ListN.{length, get_or, take, drop, length-append, get_or-append}
 use lib.Seq.{get_or-append-add, length-take-le, take_all, take_at, drop_at}
+use borrow.Author.Tests.{eq-eqb, le-leb}
+use Rattle.std.specs.Prelude.{Result, IsOk}
 use Rattle.common.specs.Floats.{inner}
 use Rattle.common.specs.Lists.{tabulate, stretch}
 use Rattle.common.specs.Matrices.{cell, matrix, column_major}
-use Rattle.common.proofs.Fill.{fill_on, fill_all, listed, stretch_cong, stretch_inside, stretch_again, length_tabulate}
+use Rattle.common.specs.Numbers.{told_number}
+use Rattle.common.specs.declared.refusals.Refusal.{Refusal}
+use Rattle.common.proofs.Cases.{inside}
+use Rattle.common.proofs.Fill.{fill_on, fill_all, listed, stretch_cong, stretch_again, length_tabulate}
 use Rattle.common.proofs.Matrices.{column_length, column_entry, some_rows}
 use Rattle.common.proofs.Sums.{sums_cong}
 use Rattle.polynomial_columns.specs.Recurrence.{T, T', T''}
 use Rattle.chebyshev.specs.Polynomials.{at_points}
-use Rattle.axes.specs.Axes.{factor_of, slope_of, S, S', sums_of}
+use Rattle.chebyshev.specs.Second.{Memory, second_number, second_call}
+use Rattle.axes.specs.Axes.{factor_of, slope_of, S, S', sums_of, made_at}
+use Rattle.axes.proofs.Accepted.{taken}
 use Rattle.bends.specs.Bends.{bend_of, S'', room_of}
-use Rattle.bends.specs.Working.{columns_at, between, finished_at}
+use Rattle.bends.specs.Working.{columns_at, between}
 
 -- THREE LISTS of one length, one after the other
 
@@ -68,17 +75,9 @@ module _ (n : ℕ) (a b c : List Float) (long-a : length a ≡ n) (long-b : leng
 -- S, S', S'' OF AN AXIS
 
 module _ (finish : Float → Float) (at p P : ℕ) (columns polynomials l : List Float) (fits : at + p * P ≤ length l) where
-  -- sums, finished in their places
-  pub sums_finished : (summed next : List Float) → summed ≡ stretch at (p * P) (sums_of p P columns polynomials) l →
-      next ≡ stretch at (p * P) (λ k. finish (get_or summed (at + k) nan)) summed → next ≡ finished_at finish at p P columns polynomials l
-  sums_finished summed next s e =
-      e ∙ stretch_cong at (p * P) _ (λ k. finish (sums_of p P columns polynomials k)) summed
-      (λ k b. ap finish (rw s (stretch_inside at (sums_of p P columns polynomials) l (p * P) k nan b (omega (arith, fits)))))
-      ∙ rw s (stretch_again at (p * P) _ (λ k. finish (sums_of p P columns polynomials k)) l fits)
-
   -- in the place of the polynomials that they were summed from
   pub axis_right : (t : ℕ → Float → Float) (points before next : List Float) → columns ≡ at_points t p P points →
-      before ≡ columns_at at p P t points l → next ≡ finished_at finish at p P columns polynomials before →
+      before ≡ columns_at at p P t points l → next ≡ made_at finish at p P columns polynomials before →
       next ≡ columns_at at p P (λ n x. finish (inner p (λ k. t k x) (matrix p polynomials n))) points l
   axis_right t points before next c b e =
       let summed : ℕ → Float = λ k. finish (sums_of p P columns polynomials k) in
@@ -97,6 +96,21 @@ kept at p P t points l fits =
     rw (size, drop_at (take at l) _ at (length-take-le at l (omega (arith, fits))))
     (take_at (tabulate (p * P) columns) _ (p * P) (length_tabulate (p * P) columns))
 
+-- the call that finds them is not refused
+pub second_taken : {A : Type 0} (p P : ℕ) (x v d s v' d' s' : List Float) (r : Result A Refusal) → 1 ≤ p → p ≤ 16 → P ≤ 4096 →
+    length x ≡ P → length v ≡ p * P → length d ≡ p * P → length s ≡ p * P →
+    (told_number r, (v', d', s')) ≡ second_call p P x (v, d, s) → IsOk r
+unfolding second_call second_number
+second_taken p P x v d s v' d' s' r least most few hx hv hd hs e =
+    taken r (ap (λ (t : ℕ × Memory). t.0) e ∙ rw (
+      inside 1 16 p least most,
+      le-leb P 4096 few,
+      eq-eqb (length x) P hx,
+      eq-eqb (length v) (p * P) hv,
+      eq-eqb (length d) (p * P) hd,
+      eq-eqb (length s) (p * P) hs,
+    ))
+
 -- ONE AXIS: T, T' and T'' in three buffers; the same in the room; and S, S' and S'' in their places
 module _ (at p P : ℕ) (side : Float) (t x f d b f₁ d₁ b₁ room : List Float) (fits-f : at + p * P ≤ length f)
     (fits-d : at + p * P ≤ length d) (fits-b : at + p * P ≤ length b) (found-f : f₁ ≡ columns_at at p P T x f)
@@ -109,7 +123,7 @@ module _ (at p P : ℕ) (side : Float) (t x f d b f₁ d₁ b₁ room : List Flo
   long : (g : ℕ → Float → Float) → length (at_points g p P x) ≡ p * P
   long g = column_length P _ p
 
-  pub factors_right : (next : List Float) → next ≡ finished_at (factor_of p) at p P (between 0 (p * P) room) t f₁ →
+  pub factors_right : (next : List Float) → next ≡ made_at (factor_of p) at p P (between 0 (p * P) room) t f₁ →
       next ≡ columns_at at p P (S p t) x f
   unfolding S room_of
   factors_right next e =
@@ -118,7 +132,7 @@ module _ (at p P : ℕ) (side : Float) (t x f d b f₁ d₁ b₁ room : List Flo
       found-f e
 
   pub slopes_right : (next : List Float) →
-      next ≡ finished_at (slope_of p side) at p P (between (p * P) (p * P + p * P) room) t d₁ → next ≡ columns_at at p P (S' p side t) x d
+      next ≡ made_at (slope_of p side) at p P (between (p * P) (p * P + p * P) room) t d₁ → next ≡ columns_at at p P (S' p side t) x d
   unfolding S' room_of
   slopes_right next e =
       axis_right (slope_of p side) at p P (between (p * P) (p * P + p * P) room) t d fits-d T' x d₁ next
@@ -126,7 +140,7 @@ module _ (at p P : ℕ) (side : Float) (t x f d b f₁ d₁ b₁ room : List Flo
       found-d e
 
   pub bends_right : (next : List Float) →
-      next ≡ finished_at (bend_of p side) at p P (between (p * P + p * P) (p * P + p * P + p * P) room) t b₁ →
+      next ≡ made_at (bend_of p side) at p P (between (p * P + p * P) (p * P + p * P + p * P) room) t b₁ →
       next ≡ columns_at at p P (S'' p side t) x b
   unfolding S'' room_of
   bends_right next e =

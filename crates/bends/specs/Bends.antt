@@ -1,8 +1,7 @@
 -- What the curvatures need of an axis beside S and S': S'' at a reference coordinate; and what the room to work in ends as.
-use Rattle.std.specs.Prelude.{◌≡◌, List, ◌++◌, ℕ, ◌*◌, ◌≤◌, Float}
+use Rattle.std.specs.Prelude.{◌≡◌, List, ◌++◌, ℕ, ◌*◌, Float}
 use Rattle.common.specs.Floats.{times, over, two₆₄, float, inner}
 use Rattle.common.specs.Matrices.{matrix, column_major}
-use Rattle.common.specs.Refusals.{Shape, most_points}
 use Rattle.polynomial_columns.specs.Recurrence.{T, T', T''}
 
 -- S'' of a sum: ((sum*(2/p))*(2/side))*(2/side)
@@ -20,8 +19,6 @@ room_of p P x =
 
 -- the lengths with which S, S' and S'' of all axes are filled: of points, node polynomials, room, factors, slopes and bends
 pub record BendsFit (D p P n t r f d b : ℕ) : Type 0 where
-  pub shape : Shape D p
-  pub few : P ≤ most_points
   pub points : n ≡ D * P
   pub polynomials : t ≡ p * p
   pub room : r ≡ 3 * p * P

@@ -2,15 +2,17 @@
 use mathlib.Core.Path.{◌≡◌, sym, ◌∙◌}
 use mathlib.Core.Bool.{Bool, true, false}
 use mathlib.Core.List.{List}
-use Prim.Native.Nat.{ℕ, ◌*◌, ◌^◌, ◌<◌, ◌≤◌}
+use Prim.Native.Nat.{ℕ, ◌*◌, ◌^◌, ◌≤◌}
 use lib.Dec.{leb}
 use lib.Ieee.{Float}
-use borrow.Author.Tests.{eqb-true, leb-true, le-leb, lt-leb}
+use borrow.Author.Tests.{eqb-true, leb-true, le-leb}
 use Rattle.common.specs.Matrices.{matrix}
-use Rattle.common.specs.Refusals.{size_if, Shape, most_points, shape_number}
+use Rattle.common.specs.Refusals.{size_if, Shape, most_points}
 use Rattle.common.proofs.Cases.{equal_and}
-use Rattle.common.proofs.Limits.{shape_out, shape_past, call_refused, call_done, passed, shape_passed}
+use Rattle.common.proofs.Limits.{shape_past, call_refused, call_done, passed, shape_passed}
 use Rattle.coordinates.specs.Coordinates.{all_finite}
+use Rattle.axes.specs.Axes.{grid_number}
+use Rattle.axes.proofs.Limits.{grid_out}
 use Rattle.coefficients.specs.Coefficients.{with_gradients, takes_side, lengths, lengths_fit, coefficients_number, Memory, leaves}
 use Rattle.coefficients.specs.Coefficients.{coefficients_call}
 use Rattle.coefficients.specs.Working.{Admitted}
@@ -18,15 +20,11 @@ use Rattle.coefficients.specs.declared.Lengths.{Lengths}
 use Rattle.coefficients.specs.declared.wanted.Wanted.{Wanted}
 
 module _ (D p P : ℕ) (wanted : Wanted) (x : List Float) (fit : Bool) where
-  pub number_shape : (shape_number D p ≡ 0 → ⊥) → shape_number D p ≡ coefficients_number D p P wanted x fit
+  pub number_grid : (grid_number D p P ≡ 0 → ⊥) → grid_number D p P ≡ coefficients_number D p P wanted x fit
   unfolding coefficients_number
-  number_shape h = shape_out D p _ h
+  number_grid h = grid_out D p P _ h
 
   module _ (s : Shape D p) where
-    pub number_count : most_points < P → 3 ≡ coefficients_number D p P wanted x fit
-    unfolding coefficients_number
-    number_count h = sym (shape_past D p _ s ∙ rw (lt-leb P most_points h))
-
     module _ (few : P ≤ most_points) where
       pub number_length : fit ≡ false → 7 ≡ coefficients_number D p P wanted x fit
       unfolding coefficients_number
@@ -56,17 +54,15 @@ module _ (D p P : ℕ) (wanted : Wanted) (x : List Float) (fit : Bool) where
 
 module _ (D p P : ℕ) (with : Bool) (lent : Lengths) where
   -- the lengths are as stated
-  pub admitted : Shape D p → P ≤ most_points → lengths_fit D p P with lent ≡ true → Admitted D p P with lent
+  pub admitted : lengths_fit D p P with lent ≡ true → Admitted D p P with lent
   unfolding lengths_fit
-  admitted s few h =
+  admitted h =
       let one = equal_and lent.coordinates (D * P) _ h in
       let two = equal_and lent.polynomials (p * p) _ one.1 in
       let three = equal_and lent.values (p ^ D * P) _ two.1 in
       let four = equal_and lent.gradients (size_if with (D * p ^ D * P)) _ three.1 in
       let five = equal_and lent.factors (D * p * P) _ four.1 in
       record {
-        shape = s;
-        few = few;
         coordinates = one.0;
         polynomials = two.0;
         values = three.0;
@@ -84,7 +80,7 @@ module _ (D p P : ℕ) (wanted : Wanted) (t x v g f d : List Float) where
   unfolding coefficients_call
   call_admitted z =
       let h = number_taken D p P wanted x (lengths_fit D p P (with_gradients wanted) (lengths t x (v, g, f, d))) z in
-      admitted D p P (with_gradients wanted) (lengths t x (v, g, f, d)) h.0 h.1 h.2
+      admitted D p P (with_gradients wanted) (lengths t x (v, g, f, d)) h.2
 
   module _ (r : ℕ) (e : r ≡ (coefficients_call D p P wanted t x (v, g, f, d)).0) where
     pub coefficients_refused : (r ≡ 0 → ⊥) → (r, (v, g, f, d)) ≡ coefficients_call D p P wanted t x (v, g, f, d)

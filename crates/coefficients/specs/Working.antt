@@ -1,8 +1,8 @@
 -- What the private functions speak of; no public contract cites it.
-use Rattle.std.specs.Prelude.{◌≡◌, Bool, cond, List, [], ℕ, ◌*◌, ◌/◌, ◌%◌, ◌^◌, ◌≤◌, Float}
+use Rattle.std.specs.Prelude.{◌≡◌, Bool, cond, List, [], ℕ, ◌*◌, ◌/◌, ◌%◌, ◌^◌, Float}
 use Rattle.common.specs.Floats.{one₆₄}
 use Rattle.common.specs.Matrices.{column_major}
-use Rattle.common.specs.Refusals.{Shape, most_points, size_if}
+use Rattle.common.specs.Refusals.{size_if}
 use Rattle.axes.specs.Axes.{S, S', on_axes}
 use Rattle.products.specs.Products.{started_of}
 use Rattle.coefficients.specs.Coefficients.{value, gradient, Memory}
@@ -30,10 +30,20 @@ filled D p P side with t x = (
   cond with (column_major P (D * p) (on_axes (S' p side t) p x)) [],
 )
 
--- the call is not refused: a shape, not too many points, and lengths as stated
+-- how long the lent buffers must be
+abbrev pub lengths_of : (D p P : ℕ) → (with : Bool) → Lengths
+lengths_of D p P with =
+    record {
+      coordinates = D * P;
+      polynomials = p * p;
+      values = p ^ D * P;
+      gradients = size_if with (D * p ^ D * P);
+      factors = D * p * P;
+      slopes = size_if with (D * p * P);
+    }
+
+-- the lengths are as stated
 pub record Admitted (D p P : ℕ) (with : Bool) (lent : Lengths) : Type 0 where
-  pub shape : Shape D p
-  pub few : P ≤ most_points
   pub coordinates : lent.coordinates ≡ D * P
   pub polynomials : lent.polynomials ≡ p * p
   pub values : lent.values ≡ p ^ D * P

@@ -1,17 +1,19 @@
 // The call for approximation coefficients, at reference coordinates.
 ghost use Rattle.std.specs.Prelude.{◌≡◌};
 ghost use Rattle.common.specs.Matrices.{matrix};
+ghost use Rattle.common.specs.Numbers.{told_number};
 ghost use Rattle.coefficients.specs.Coefficients.{lengths, coefficients_call};
 ghost use Rattle.coefficients.specs.Working.{Admitted, filled};
 
 use crate::columns::fill_gradients;
-use crate::limits::coefficients_number;
-use crate::wanted::{Wanted, side_of, with_gradients};
-use axes::{Cell, fill_axes};
+use crate::limits::grid_of;
+use crate::wanted::{Wanted, with_gradients};
+use axes::{Grid, fill_axes};
+use common::Refusal;
 use products::fill_started;
 
 fn fill_coefficients(
-    cell: Cell,
+    grid: Grid,
     is_derived: bool,
     node_polynomials: &[f64],
     coordinates: &[f64],
@@ -20,14 +22,14 @@ fn fill_coefficients(
     factors: &mut [f64],
     slopes: &mut [f64],
 )
-    requires { Admitted cell.dimension cell.order cell.rows is_derived
+    requires { Admitted grid.shape.dimension grid.shape.order grid.rows is_derived
         (lengths node_polynomials.now coordinates.now (values.old, gradients.old, factors.old, slopes.old)) }
     ensures { (values.new, gradients.new, factors.new, slopes.new) ≡
-        filled cell.dimension cell.order cell.rows cell.side is_derived node_polynomials.now
-        (matrix cell.rows coordinates.now) }
+        filled grid.shape.dimension grid.shape.order grid.rows grid.side is_derived node_polynomials.now
+        (matrix grid.rows coordinates.now) }
 {
     fill_axes(
-        cell,
+        grid,
         is_derived,
         coordinates,
         node_polynomials,
@@ -36,8 +38,8 @@ fn fill_coefficients(
         factors,
         slopes,
     );
-    fill_gradients(cell, is_derived, slopes, factors, gradients);
-    fill_started(cell, 0, factors, factors, values);
+    fill_gradients(grid, is_derived, slopes, factors, gradients);
+    fill_started(grid, 0, factors, factors, values);
 }
 
 // What each node of a cell counts for at each of the points, which are given by reference coordinates: one row a point, one column a
@@ -54,12 +56,12 @@ pub fn get_approximation_coefficients(
     gradients: &mut [f64],
     factors: &mut [f64],
     slopes: &mut [f64],
-) -> u8
-    ensures { (result, (values.new, gradients.new, factors.new, slopes.new)) ≡
+) -> Result<(), Refusal>
+    ensures { (told_number result, (values.new, gradients.new, factors.new, slopes.new)) ≡
         coefficients_call dimension order rows wanted node_polynomials.now coordinates.now
         (values.old, gradients.old, factors.old, slopes.old) }
 {
-    let refused = coefficients_number(
+    let grid = grid_of(
         dimension,
         order,
         rows,
@@ -70,18 +72,9 @@ pub fn get_approximation_coefficients(
         gradients,
         factors,
         slopes,
-    );
-    if refused != 0 {
-        return refused;
-    }
-    let cell = Cell {
-        dimension,
-        order,
-        side: side_of(wanted),
-        rows,
-    };
+    )?;
     fill_coefficients(
-        cell,
+        grid,
         with_gradients(wanted),
         node_polynomials,
         coordinates,
@@ -90,5 +83,5 @@ pub fn get_approximation_coefficients(
         factors,
         slopes,
     );
-    0
+    Ok(())
 }

@@ -15,7 +15,7 @@ pub use limits::coefficients_number;
 pub use wanted::Wanted;
 
 // The lengths of the lent buffers.
-#[derive(Drop)]
+#[derive(Clone, Copy, PartialEq, Eq)]
 pub struct Lengths {
     pub coordinates: usize,
     pub polynomials: usize,

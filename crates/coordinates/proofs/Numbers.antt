@@ -1,17 +1,38 @@
 -- What the number of a cell and its points says, by the tests that lead to it. Assumes nothing.
-use mathlib.Core.Path.{◌≡◌}
-use mathlib.Core.Bool.{true, false, ◌&&◌, and-eq-true_iff}
-use mathlib.Core.List.{List}
-use Prim.Native.Nat.{ℕ, ◌<◌}
+use mathlib.Core.Path.{◌≡◌, refl, ap, ◌∙◌}
+use mathlib.Core.Bool.{Bool, true, false, ◌&&◌, and-eq-true_iff}
+use mathlib.Core.List.{List, [], ◌∷◌}
+use Prim.Native.Nat.{ℕ, zero, suc, ◌<◌}
 use native.Mathlib.Omega.{arith}
 use lib.Ieee.{Float, nan}
 use lib.Ieee.Scale.{finite}
 use lib.ListN.{length, get_or}
+use Rattle.std.specs.List.{list_all}
 use Rattle.common.specs.Refusals.{is_cell}
 use Rattle.common.specs.Tests.{each}
 use Rattle.common.proofs.Limits.{passed, past}
 use Rattle.common.proofs.Tests.{each_at}
 use Rattle.coordinates.specs.Coordinates.{all_finite, coordinate, in_cell, all_in_cell, points_number}
+
+-- EACH ENTRY of a list, from the front
+
+and_assoc : (a b c : Bool) → ((a && b) && c) ≡ (a && (b && c))
+and_assoc true b c = refl
+and_assoc false b c = refl
+
+each_front : (n : ℕ) (f : ℕ → Bool) → each (suc n) f ≡ (f zero && each n (λ i. f (suc i)))
+unfolding each
+each_front zero f = and_true (f zero)
+  where
+    and_true : (b : Bool) → true && b ≡ b && true
+    and_true true = refl
+    and_true false = refl
+each_front (suc n) f = rw (each_front n f) (and_assoc (f zero) (each n (λ i. f (suc i))) (f (suc n)))
+
+pub each_listed : {A : Type 0} (l : List A) (f : A → Bool) (d : A) → each (length l) (λ i. f (get_or l i d)) ≡ list_all f l
+unfolding each
+each_listed [] f d = refl
+each_listed (x ∷ l) f d = each_front (length l) (λ i. f (get_or (x ∷ l) i d)) ∙ ap (λ (b : Bool). f x && b) (each_listed l f d)
 
 -- WHERE ALL ARE FINITE, OR IN THE CELL, each is
 

@@ -7,14 +7,18 @@ ghost use Rattle.std.specs.Prelude.{◌≡◌, ◌+◌, ◌*◌, ◌≤◌, leng
 ghost use Rattle.std.specs.Float.{nan};
 ghost use Rattle.common.specs.Lists.{stretch};
 ghost use Rattle.common.specs.Matrices.{column_major};
+ghost use Rattle.common.specs.Numbers.{told_number};
 ghost use Rattle.common.specs.Tests.{each};
 ghost use Rattle.coordinates.specs.Coordinates.{coordinate_in, all_finite, coordinate, in_cell, all_in_cell, points_number};
 
+use common::Refusal;
 pub use scaling::{scale_points, scaling_number};
 
+// Where a point lies.
 #[derive(Drop)]
 struct Physical(f64);
 
+// Where it lies in its cell.
 #[derive(Drop)]
 struct Reference(f64);
 
@@ -24,14 +28,7 @@ const BORDER: f64 = 1.00000095367431640625;
 pub fn all_finite(list: &[f64]) -> bool
     ensures { result ≡ all_finite list.now }
 {
-    let mut i = 0;
-    while i < list.len() {
-        if !common::is_finite(list[i]) {
-            return false;
-        }
-        i += 1;
-    }
-    true
+    list.iter().all(|x| common::is_finite(*x))
 }
 
 // The one step from physical to reference coordinates.
@@ -48,17 +45,16 @@ fn is_in_cell(x: Reference) -> bool
     (-BORDER <= x.0) & (x.0 <= BORDER)
 }
 
-// Whether all points are in the cell on one axis, whose coordinates stand from place `at` on.
+// Whether all points are in the cell on one axis, whose coordinates stand from place `at` on. It goes on after a point outside, so
+// that several points are tested at once.
 fn axis_in_cell(rows: usize, side: f64, centre: f64, at: usize, points: &[f64]) -> bool
     requires { at + rows ≤ length points.now }
     ensures { result ≡ each rows (λ i. in_cell (coordinate_in side centre (get_or points.now (at + i) nan))) }
 {
     let mut are_in = true;
-    let mut i = 0;
-    while i < rows {
+    for i in 0..rows {
         let x = scale(Physical(points[at + i]), Physical(centre), side);
         are_in = are_in & is_in_cell(x);
-        i += 1;
     }
     are_in
 }
@@ -68,42 +64,35 @@ fn all_in_cell(dimension: usize, rows: usize, side: f64, centre: &[f64], points:
     requires { (dimension ≤ 3) × (length centre.now ≡ dimension) × (length points.now ≡ dimension * rows) }
     ensures { result ≡ all_in_cell dimension rows (coordinate rows side centre.now points.now) }
 {
-    let mut axis = 0;
-    let mut at = 0;
-    while axis < dimension {
-        if !axis_in_cell(rows, side, centre[axis], at, points) {
+    for axis in 0..dimension {
+        if !axis_in_cell(rows, side, centre[axis], axis * rows, points) {
             return false;
         }
-        at += rows;
-        axis += 1;
     }
     true
 }
 
-// The lowest refusal that a cell, its centre and the points bring, or 0.
-pub(crate) fn points_number(
+// The lowest refusal that a cell, its centre and the points bring.
+pub(crate) fn check_points(
     dimension: usize,
     rows: usize,
     side: f64,
     centre: &[f64],
     points: &[f64],
-) -> u8
+) -> Result<(), Refusal>
     requires { (dimension ≤ 3) × (length centre.now ≡ dimension) × (length points.now ≡ dimension * rows) }
-    ensures { result ≡ points_number dimension rows side centre.now points.now }
+    ensures { told_number result ≡ points_number dimension rows side centre.now points.now }
 {
     if !common::is_cell(side) {
-        return common::NO_CELL;
+        return Err(Refusal::NoCell);
     }
-    if !all_finite(points) {
-        return common::NOT_FINITE;
-    }
-    if !all_finite(centre) {
-        return common::NOT_FINITE;
+    if !all_finite(points) || !all_finite(centre) {
+        return Err(Refusal::NotFinite);
     }
     if !all_in_cell(dimension, rows, side, centre, points) {
-        return common::OUT_OF_CELL;
+        return Err(Refusal::OutOfCell);
     }
-    0
+    Ok(())
 }
 
 // The points' coordinates on one axis, from place `at` on.
@@ -112,12 +101,9 @@ fn scale_axis(rows: usize, side: f64, centre: f64, at: usize, points: &mut [f64]
     ensures { points.new ≡
         stretch at rows (λ i. coordinate_in side centre (get_or points.old (at + i) nan)) points.old }
 {
-    let mut i = 0;
-    while i < rows {
-        let point = Physical(points[at + i]);
-        let x = scale(point, Physical(centre), side);
+    for i in 0..rows {
+        let x = scale(Physical(points[at + i]), Physical(centre), side);
         points[at + i] = x.0;
-        i += 1;
     }
 }
 
@@ -133,11 +119,7 @@ pub(crate) fn scale_axes(
     ensures { points.new ≡
         column_major rows dimension (coordinate rows side centre.now points.old) }
 {
-    let mut axis = 0;
-    let mut at = 0;
-    while axis < dimension {
-        scale_axis(rows, side, centre[axis], at, points);
-        at += rows;
-        axis += 1;
+    for axis in 0..dimension {
+        scale_axis(rows, side, centre[axis], axis * rows, points);
     }
 }

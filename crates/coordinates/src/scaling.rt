@@ -1,34 +1,31 @@
 // The call that scales points: physical coordinates become reference coordinates, in place.
 ghost use Rattle.std.specs.Prelude.{◌≡◌};
+ghost use Rattle.common.specs.Numbers.{told_number};
 ghost use Rattle.coordinates.specs.Scaling.{scaling_number, scale_call};
 
-use crate::{points_number, scale_axes};
+use crate::{check_points, scale_axes};
+use common::{Refusal, Shape};
 
-// The number that the call for scaling would answer: it tests, and writes nothing.
+// Whether the call for scaling would refuse, and why: it tests, and writes nothing.
 pub fn scaling_number(
     dimension: usize,
     rows: usize,
     side: f64,
     centre: &[f64],
     points: &[f64],
-) -> u8
-    ensures { result ≡ scaling_number dimension rows side centre.now points.now }
+) -> Result<(), Refusal>
+    ensures { told_number result ≡ scaling_number dimension rows side centre.now points.now }
 {
     // An order of 1 is always taken, so that the dimension alone decides.
-    let shape = common::shape_number(dimension, 1);
-    if shape != 0 {
-        return shape;
-    }
+    Shape::new(dimension, 1)?;
     if common::MOST_POINTS < rows {
-        return common::NO_COUNT;
+        return Err(Refusal::NoCount);
     }
-    if centre.len() != dimension {
-        return common::WRONG_LENGTH;
+    let size = dimension * rows;
+    if centre.len() != dimension || points.len() != size {
+        return Err(Refusal::WrongLength);
     }
-    if points.len() != dimension * rows {
-        return common::WRONG_LENGTH;
-    }
-    points_number(dimension, rows, side, centre, points)
+    check_points(dimension, rows, side, centre, points)
 }
 
 // Points in a cell with this side and centre become reference coordinates: a row a point, a column an axis. No point is scaled
@@ -39,13 +36,10 @@ pub fn scale_points(
     side: f64,
     centre: &[f64],
     points: &mut [f64],
-) -> u8
-    ensures { (result, points.new) ≡ scale_call dimension rows side centre.now points.old }
+) -> Result<(), Refusal>
+    ensures { (told_number result, points.new) ≡ scale_call dimension rows side centre.now points.old }
 {
-    let refused = scaling_number(dimension, rows, side, centre, points);
-    if refused != 0 {
-        return refused;
-    }
+    scaling_number(dimension, rows, side, centre, points)?;
     scale_axes(dimension, rows, side, centre, points);
-    0
+    Ok(())
 }

@@ -2,28 +2,26 @@
 use mathlib.Core.Path.{◌≡◌, sym, ◌∙◌}
 use mathlib.Core.Bool.{true, false}
 use mathlib.Core.List.{List}
-use Prim.Native.Nat.{ℕ, ◌<◌, ◌≤◌}
+use Prim.Native.Nat.{ℕ, ◌≤◌}
 use lib.Dec.{leb}
 use lib.Ieee.{Float}
-use borrow.Author.Tests.{eqb-true, leb-true, le-leb, lt-leb}
+use borrow.Author.Tests.{eqb-true, leb-true, le-leb}
 use Rattle.common.specs.Matrices.{matrix}
-use Rattle.common.specs.Refusals.{Shape, most_points, shape_number, is_cell}
+use Rattle.common.specs.Refusals.{Shape, most_points, is_cell}
 use Rattle.common.proofs.Cases.{equal_and}
-use Rattle.common.proofs.Limits.{shape_out, shape_past, call_refused, call_done, passed, shape_passed}
+use Rattle.common.proofs.Limits.{shape_past, call_refused, call_done, passed, shape_passed}
 use Rattle.coordinates.specs.Coordinates.{all_finite}
+use Rattle.axes.specs.Axes.{grid_number}
+use Rattle.axes.proofs.Limits.{grid_out}
 use Rattle.curvatures.specs.Curvatures.{Memory, leaves, lengths_of, lengths, alike, curvature_number, curvature_call}
 use Rattle.curvatures.specs.declared.Lengths.{Lengths}
 
 module _ (D p P : ℕ) (side : Float) (x : List Float) (lent : Lengths) where
-  pub number_shape : (shape_number D p ≡ 0 → ⊥) → shape_number D p ≡ curvature_number D p P side x lent
+  pub number_grid : (grid_number D p P ≡ 0 → ⊥) → grid_number D p P ≡ curvature_number D p P side x lent
   unfolding curvature_number
-  number_shape h = shape_out D p _ h
+  number_grid h = grid_out D p P _ h
 
   module _ (s : Shape D p) where
-    pub number_count : most_points < P → 3 ≡ curvature_number D p P side x lent
-    unfolding curvature_number
-    number_count h = sym (shape_past D p _ s ∙ rw (lt-leb P most_points h))
-
     module _ (few : P ≤ most_points) where
       pub number_length : alike lent (lengths_of D p P) ≡ false → 7 ≡ curvature_number D p P side x lent
       unfolding curvature_number

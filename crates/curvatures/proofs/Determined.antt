@@ -3,11 +3,16 @@ use mathlib.Core.Path.{◌≡◌}
 use mathlib.Core.List.{List}
 use Prim.Native.Nat.{ℕ}
 use lib.Ieee.{Float}
-use Rattle.common.proofs.Determined.{coincide}
+use Rattle.std.specs.Prelude.{Result}
+use Rattle.common.specs.Numbers.{told_number}
+use Rattle.common.specs.declared.refusals.Refusal.{Refusal}
+use Rattle.common.proofs.Determined.{told_coincide}
 use Rattle.curvatures.specs.Curvatures.{Memory, curvature_call}
 
-get_curvature_coefficients_determined : (dimension order rows : ℕ) (side : Float) (polynomials coordinates : List Float) (lent : Memory)
-    (r r' : ℕ × Memory) → r ≡ curvature_call dimension order rows side polynomials coordinates lent →
-    r' ≡ curvature_call dimension order rows side polynomials coordinates lent → r ≡ r'
-get_curvature_coefficients_determined dimension order rows side polynomials coordinates lent r r' =
-    coincide r r' (curvature_call dimension order rows side polynomials coordinates lent)
+module _ (dimension order rows : ℕ) (side : Float) (polynomials coordinates : List Float) (lent m m' : Memory)
+    (r r' : Result Unit Refusal) where
+  get_curvature_coefficients_determined : (told_number r, m) ≡ curvature_call dimension order rows side polynomials coordinates lent →
+      (told_number r', m') ≡ curvature_call dimension order rows side polynomials coordinates lent →
+      ◌≡◌ {A = Result Unit Refusal × Memory} (r, m) (r', m')
+  get_curvature_coefficients_determined =
+      told_coincide r r' m m' (curvature_call dimension order rows side polynomials coordinates lent)

@@ -64,7 +64,7 @@ third_below : (D g h : ℕ) → D ≤ 3 → g < h → h < D → third_axis D g h
 third_below D g h most l b =
     by_bool (leb D 2) (λ e. rw e (omega arith)) (λ e. rw e (let three : 2 < D = leb-false D 2 e in omega arith))
 
-module _ (D p P : ℕ) (factors slopes bends : List Float) (h : Filled D p P factors slopes bends) (pair : Pair) where
+module _ (D p P : ℕ) (factors slopes bends : List Float) (most : D ≤ 3) (h : Filled D p P factors slopes bends) (pair : Pair) where
   -- the columns of a pair of one axis
   pub pair_one : pair.first ≡ pair.second → (columns : ℕ) →
       column_major P columns (started_of D p P pair.first bends factors) ≡ column_major P columns (pair_of D p P factors slopes bends pair)
@@ -77,10 +77,8 @@ module _ (D p P : ℕ) (factors slopes bends : List Float) (h : Filled D p P fac
     pub pair_sources : Sources D p P (three pair.first pair.second r) (three slopes slopes factors)
     pair_sources =
         record {
-          shape = h.shape;
-          few = h.few;
           axis = each_three pair.first pair.second r (λ n. n < D) (omega arith) below
-              (rw third (third_below D pair.first pair.second h.shape.dimension_most rises below));
+              (rw third (third_below D pair.first pair.second most rises below));
           long = each_three slopes slopes factors (λ l. length l ≡ D * p * P) h.long_slopes h.long_slopes h.long_factors;
         }
 
@@ -90,7 +88,7 @@ module _ (D p P : ℕ) (factors slopes bends : List Float) (h : Filled D p P fac
     unfolding three
     pair_two columns =
         column_cong P _ columns (pair_of D p P factors slopes bends pair)
-        (λ i k _ _. pair_of_two D pair.first pair.second _ _ _ h.shape.dimension_most rises below
+        (λ i k _ _. pair_of_two D pair.first pair.second _ _ _ most rises below
         (ap (λ (a : ℕ). get_or factors (place_of D p P k a + i) nan) third))
 
 -- FROM S, S' AND S'' where they stand

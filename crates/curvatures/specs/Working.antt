@@ -1,8 +1,7 @@
 -- What the private functions speak of; no public contract cites it.
-use Rattle.std.specs.Prelude.{cond, List, ◌≡◌, ℕ, ◌+◌, ◌-◌, ◌*◌, ◌/◌, ◌%◌, ◌^◌, ◌≤◌, eqb, leb, Float, length, get_or}
+use Rattle.std.specs.Prelude.{cond, List, ◌≡◌, ℕ, ◌+◌, ◌-◌, ◌*◌, ◌/◌, ◌%◌, ◌^◌, eqb, leb, Float, length, get_or}
 use Rattle.std.specs.Float.{nan}
 use Rattle.common.specs.Floats.{times}
-use Rattle.common.specs.Refusals.{Shape, most_points}
 use Rattle.products.specs.Products.{place_of}
 use Rattle.curvatures.specs.Curvatures.{pair_at, besides}
 use Rattle.curvatures.specs.declared.pairs.Pair.{Pair}
@@ -28,8 +27,6 @@ module _ (D p P : ℕ) (factors slopes bends : List Float) where
 
 -- the three buffers of S, S' and S'' have their lengths
 pub record Filled (D p P : ℕ) (factors slopes bends : List Float) : Type 0 where
-  pub shape : Shape D p
-  pub few : P ≤ most_points
   pub long_factors : length factors ≡ D * p * P
   pub long_slopes : length slopes ≡ D * p * P
   pub long_bends : length bends ≡ D * p * P

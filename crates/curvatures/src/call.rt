@@ -1,17 +1,18 @@
 // The call for curvatures, at reference coordinates.
-ghost use Rattle.std.specs.Prelude.{◌≡◌, ◌≤◌};
+ghost use Rattle.std.specs.Prelude.{◌≡◌};
 ghost use Rattle.common.specs.Matrices.{matrix};
+ghost use Rattle.common.specs.Numbers.{told_number};
 ghost use Rattle.curvatures.specs.Curvatures.{lengths_of, lengths, leaves, curvature_call};
-ghost use Rattle.common.specs.Refusals.{Shape, most_points};
 
 use crate::Lengths;
 use crate::columns::fill_pairs;
-use crate::limits::curvature_number;
-use axes::Cell;
+use crate::limits::grid_of;
+use axes::Grid;
 use bends::fill_bent_axes;
+use common::Refusal;
 
 fn fill_curvatures(
-    cell: Cell,
+    grid: Grid,
     node_polynomials: &[f64],
     coordinates: &[f64],
     curvatures: &mut [f64],
@@ -20,15 +21,14 @@ fn fill_curvatures(
     bends: &mut [f64],
     room: &mut [f64],
 )
-    requires { Shape cell.dimension cell.order × (cell.rows ≤ most_points) ×
-        (lengths node_polynomials.now coordinates.now (curvatures.old, factors.old, slopes.old, bends.old, room.old) ≡
-        lengths_of cell.dimension cell.order cell.rows) }
+    requires { lengths node_polynomials.now coordinates.now (curvatures.old, factors.old, slopes.old, bends.old, room.old) ≡
+        lengths_of grid.shape.dimension grid.shape.order grid.rows }
     ensures { (curvatures.new, factors.new, slopes.new, bends.new, room.new) ≡
-        leaves cell.dimension cell.order cell.rows cell.side node_polynomials.now
-        (matrix cell.rows coordinates.now) }
+        leaves grid.shape.dimension grid.shape.order grid.rows grid.side node_polynomials.now
+        (matrix grid.rows coordinates.now) }
 {
     fill_bent_axes(
-        cell,
+        grid,
         coordinates,
         node_polynomials,
         room,
@@ -36,7 +36,7 @@ fn fill_curvatures(
         slopes,
         bends,
     );
-    fill_pairs(cell, factors, slopes, bends, curvatures);
+    fill_pairs(grid, factors, slopes, bends, curvatures);
 }
 
 // How what each node of a cell counts for bends at each of the points, which are given by reference coordinates: one row a point; for each
@@ -54,8 +54,8 @@ pub fn get_curvature_coefficients(
     slopes: &mut [f64],
     bends: &mut [f64],
     room: &mut [f64],
-) -> u8
-    ensures { (result, (curvatures.new, factors.new, slopes.new, bends.new, room.new)) ≡
+) -> Result<(), Refusal>
+    ensures { (told_number result, (curvatures.new, factors.new, slopes.new, bends.new, room.new)) ≡
         curvature_call dimension order rows side node_polynomials.now coordinates.now
         (curvatures.old, factors.old, slopes.old, bends.old, room.old) }
 {
@@ -68,18 +68,9 @@ pub fn get_curvature_coefficients(
         bends: bends.len(),
         room: room.len(),
     };
-    let refused = curvature_number(dimension, order, rows, side, coordinates, lent);
-    if refused != 0 {
-        return refused;
-    }
-    let cell = Cell {
-        dimension,
-        order,
-        side,
-        rows,
-    };
+    let grid = grid_of(dimension, order, rows, side, coordinates, lent)?;
     fill_curvatures(
-        cell,
+        grid,
         node_polynomials,
         coordinates,
         curvatures,
@@ -88,5 +79,5 @@ pub fn get_curvature_coefficients(
         bends,
         room,
     );
-    0
+    Ok(())
 }

@@ -5,7 +5,7 @@ ghost use Rattle.curvatures.specs.Curvatures.{pair_count};
 ghost use Rattle.curvatures.specs.Working.{third_axis, pair_of, curvature_of, Filled};
 
 use crate::pairs::{Pair, pair_at, pair_count};
-use axes::Cell;
+use axes::Grid;
 use products::{ThreeAxes, fill_products, fill_started};
 
 // The third axis of a product that starts with two.
@@ -21,55 +21,53 @@ fn third_axis(dimension: usize, pair: Pair) -> usize
 
 // The columns of all nodes for one pair: with S'' of its one axis at the start, or with S' of both.
 fn fill_pair(
-    cell: Cell,
+    grid: Grid,
     pair: Pair,
     factors: &[f64],
     slopes: &[f64],
     bends: &[f64],
     out: &mut [f64],
 )
-    requires { Filled cell.dimension cell.order cell.rows factors.now slopes.now bends.now ×
-        (pair.first ≤ pair.second) × (pair.second < cell.dimension) ×
-        (length out.old ≡ cell.order ^ cell.dimension * cell.rows) }
-    ensures { out.new ≡ column_major cell.rows (cell.order ^ cell.dimension)
-        (pair_of cell.dimension cell.order cell.rows factors.now slopes.now bends.now pair) }
+    requires { Filled grid.shape.dimension grid.shape.order grid.rows factors.now slopes.now bends.now ×
+        (pair.first ≤ pair.second) × (pair.second < grid.shape.dimension) ×
+        (length out.old ≡ grid.shape.order ^ grid.shape.dimension * grid.rows) }
+    ensures { out.new ≡ column_major grid.rows (grid.shape.order ^ grid.shape.dimension)
+        (pair_of grid.shape.dimension grid.shape.order grid.rows factors.now slopes.now bends.now pair) }
 {
     if pair.first == pair.second {
-        fill_started(cell, pair.first, bends, factors, out);
+        fill_started(grid, pair.first, bends, factors, out);
     } else {
         let axes = ThreeAxes {
             first: pair.first,
             second: pair.second,
-            third: third_axis(cell.dimension, pair),
+            third: third_axis(grid.shape.dimension, pair),
         };
-        fill_products(cell, axes, slopes, slopes, factors, out);
+        fill_products(grid, axes, slopes, slopes, factors, out);
     }
 }
 
 // The columns of all pairs.
 pub(crate) fn fill_pairs(
-    cell: Cell,
+    grid: Grid,
     factors: &[f64],
     slopes: &[f64],
     bends: &[f64],
     curvatures: &mut [f64],
 )
-    requires { Filled cell.dimension cell.order cell.rows factors.now slopes.now bends.now ×
-        (length curvatures.old ≡ pair_count cell.dimension * cell.order ^ cell.dimension * cell.rows) }
+    requires { Filled grid.shape.dimension grid.shape.order grid.rows factors.now slopes.now bends.now ×
+        (length curvatures.old ≡ pair_count grid.shape.dimension * grid.shape.order ^ grid.shape.dimension * grid.rows) }
     ensures { curvatures.new ≡
-        column_major cell.rows (pair_count cell.dimension * cell.order ^ cell.dimension)
-        (curvature_of cell.dimension cell.order cell.rows factors.now slopes.now bends.now) }
+        column_major grid.rows (pair_count grid.shape.dimension * grid.shape.order ^ grid.shape.dimension)
+        (curvature_of grid.shape.dimension grid.shape.order grid.rows factors.now slopes.now bends.now) }
 {
-    let dimension = cell.dimension;
+    let dimension = grid.shape.dimension;
     let pairs = pair_count(dimension);
-    let count = common::power(cell.order, dimension) * cell.rows;
-    let mut q = 0;
+    let count = grid.shape.nodes() * grid.rows;
     let mut at = 0;
-    while q < pairs {
+    for q in 0..pairs {
         let end = at + count;
         let pair = pair_at(dimension, q);
-        fill_pair(cell, pair, factors, slopes, bends, &mut curvatures[at..end]);
+        fill_pair(grid, pair, factors, slopes, bends, &mut curvatures[at..end]);
         at = end;
-        q += 1;
     }
 }

@@ -9,7 +9,7 @@ mod pairs;
 pub use call::get_curvature_coefficients;
 
 // The lengths of the lent buffers.
-#[derive(Drop)]
+#[derive(Clone, Copy, PartialEq, Eq)]
 pub struct Lengths {
     pub coordinates: usize,
     pub polynomials: usize,

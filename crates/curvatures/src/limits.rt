@@ -1,18 +1,22 @@
 // The refusals of the call for curvatures.
-ghost use Rattle.std.specs.Prelude.{◌≡◌, ◌≤◌};
-ghost use Rattle.common.specs.Refusals.{Shape, most_points};
-ghost use Rattle.curvatures.specs.Curvatures.{lengths_of, alike, curvature_number};
+ghost use Rattle.std.specs.Prelude.{◌≡◌, IfOk};
+ghost use Rattle.common.specs.Numbers.{told_number};
+ghost use Rattle.curvatures.specs.Curvatures.{lengths_of, curvature_number};
 
 use crate::Lengths;
 use crate::pairs::pair_count;
+use axes::Grid;
+use common::Refusal;
 use coordinates::all_finite;
 
 // How long the lent buffers must be.
-fn lengths_of(dimension: usize, order: usize, rows: usize) -> Lengths
-    requires { Shape dimension order × (rows ≤ most_points) }
-    ensures { result ≡ lengths_of dimension order rows }
+fn lengths_of(grid: Grid) -> Lengths
+    ensures { result ≡ lengths_of grid.shape.dimension grid.shape.order grid.rows }
 {
-    let nodes = common::power(order, dimension);
+    let dimension = grid.shape.dimension;
+    let order = grid.shape.order;
+    let rows = grid.rows;
+    let nodes = grid.shape.nodes();
     let pairs = pair_count(dimension);
     let columns = dimension * order * rows;
     Lengths {
@@ -26,56 +30,29 @@ fn lengths_of(dimension: usize, order: usize, rows: usize) -> Lengths
     }
 }
 
-fn are_alike(lent: Lengths, wanted: Lengths) -> bool
-    ensures { result ≡ alike lent wanted }
-{
-    if lent.coordinates != wanted.coordinates {
-        return false;
-    }
-    if lent.polynomials != wanted.polynomials {
-        return false;
-    }
-    if lent.curvatures != wanted.curvatures {
-        return false;
-    }
-    if lent.factors != wanted.factors {
-        return false;
-    }
-    if lent.slopes != wanted.slopes {
-        return false;
-    }
-    if lent.bends != wanted.bends {
-        return false;
-    }
-    lent.room == wanted.room
-}
-
-// The lowest refusal, or 0.
-pub(crate) fn curvature_number(
+// The grid of a call that is not refused, or else the lowest refusal.
+pub(crate) fn grid_of(
     dimension: usize,
     order: usize,
     rows: usize,
     side: f64,
     coordinates: &[f64],
     lent: Lengths,
-) -> u8
-    ensures { result ≡ curvature_number dimension order rows side coordinates.now lent }
+) -> Result<Grid, Refusal>
+    ensures number { told_number result ≡ curvature_number dimension order rows side coordinates.now lent }
+    ensures grid { IfOk result
+        (λ g. (g.shape.dimension ≡ dimension) × (g.shape.order ≡ order) × (g.side ≡ side) × (g.rows ≡ rows)) }
 {
-    let shape = common::shape_number(dimension, order);
-    if shape != 0 {
-        return shape;
-    }
-    if common::MOST_POINTS < rows {
-        return common::NO_COUNT;
-    }
-    if !are_alike(lent, lengths_of(dimension, order, rows)) {
-        return common::WRONG_LENGTH;
+    let grid = Grid::new(dimension, order, side, rows)?;
+    let wanted = lengths_of(grid);
+    if lent != wanted {
+        return Err(Refusal::WrongLength);
     }
     if !common::is_cell(side) {
-        return common::NO_CELL;
+        return Err(Refusal::NoCell);
     }
     if !all_finite(coordinates) {
-        return common::NOT_FINITE;
+        return Err(Refusal::NotFinite);
     }
-    0
+    Ok(grid)
 }

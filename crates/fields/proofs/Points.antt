@@ -206,6 +206,12 @@ run_fits P point count e l = (omega arith, omega arith, omega arith)
 
 -- ONE PLACE: the number that was found, and the ratio where there is one; a place that gets none keeps what it had
 
+kept : (air : Air) (other : Float) → ((x : Float) → air ≡ Ratio x → ⊥) → ratio_or air other ≡ other
+unfolding ratio_or
+kept (Ratio x) other h = absurd (h x refl)
+kept Unusable other h = refl
+kept Fresh other h = refl
+
 module _ (a : List ℕ) (r : List Float) (k n : ℕ) (this : Air) (e : n ≡ number_of this) where
   abbrev Put : List Float → Type 0
   Put r' = (set a k n ≡ set a k (number_of this)) × (r' ≡ set r k (ratio_or this (get_or r k nan)))
@@ -214,10 +220,5 @@ module _ (a : List ℕ) (r : List Float) (k n : ℕ) (this : Air) (e : n ≡ num
   unfolding ratio_or
   put_ratio x h = (ap (set a k) e, rw h)
 
-  pub put_unusable : this ≡ Unusable → Put r
-  unfolding ratio_or
-  put_unusable h = (ap (set a k) e, rw h (sym (set-get_or r k nan)))
-
-  pub put_fresh : this ≡ Fresh → Put r
-  unfolding ratio_or
-  put_fresh h = (ap (set a k) e, rw h (sym (set-get_or r k nan)))
+  pub put_none : ((x : Float) → this ≡ Ratio x → ⊥) → Put r
+  put_none h = (ap (set a k) e, rw (kept this (get_or r k nan) h) (sym (set-get_or r k nan)))

@@ -27,10 +27,8 @@ fn add_two(
     ensures { gas.new ≡
         stretch 0 count (two_more values.now at next first second gas.old) gas.old }
 {
-    let mut i = 0;
-    while i < count {
+    for i in 0..count {
         gas[i] = gas[i] + values[at + i] * first + values[next + i] * second;
-        i += 1;
     }
 }
 
@@ -77,12 +75,8 @@ fn put_air(air: Air, point: usize, answers: &mut [u8], ratios: &mut [f64])
         (ratios.new ≡ set ratios.old point (ratio_or air (get_or ratios.old point nan))) }
 {
     answers[point] = number_of(air);
-    match air {
-        Air::Ratio(ratio) => {
-            ratios[point] = ratio;
-        }
-        Air::Unusable => {}
-        Air::Fresh => {}
+    if let Air::Ratio(ratio) = air {
+        ratios[point] = ratio;
     }
 }
 
@@ -103,15 +97,13 @@ fn tell_air(
         (air_here floor carbon_monoxide.now nitrogen.now oxygen.now)
         answers.old ratios.old }
 {
-    let mut i = 0;
-    while i < count {
+    for i in 0..count {
         let gases = Gases {
             carbon_monoxide: carbon_monoxide[i],
             nitrogen: nitrogen[i],
             oxygen: oxygen[i],
         };
         put_air(air_of(floor, gases), from + i, answers, ratios);
-        i += 1;
     }
 }
 
@@ -164,7 +156,7 @@ pub fn fill_answers(
 {
     let mut point = 0;
     while point < rows {
-        let count = common::least(RUN, rows - point);
+        let count = RUN.min(rows - point);
         fill_run(
             nodes,
             rows,

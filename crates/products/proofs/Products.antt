@@ -63,12 +63,10 @@ started (suc (suc (suc (suc D)))) g v f h least most b x y z = absurd (omega ari
 
 module _ (D p P g s t : ℕ) (starts factors : List Float) (shape : Shape D p) (axis : g < D) (second : s ≡ second_axis D g)
     (third : t ≡ third_axis D g) where
-  pub sources : P ≤ 4096 → length starts ≡ D * p * P → length factors ≡ D * p * P →
+  pub sources : length starts ≡ D * p * P → length factors ≡ D * p * P →
       Sources D p P (three g s t) (three starts factors factors)
-  sources few a b =
+  sources a b =
       record {
-        shape = shape;
-        few = few;
         axis = each_three g s t (λ n. n < D) axis (rw second (second_below D g shape.dimension_least))
             (rw third (third_below D g shape.dimension_least));
         long = each_three starts factors factors (λ l. length l ≡ D * p * P) a b b;
@@ -93,7 +91,7 @@ others_cong g v w (suc n) f h e same =
     by_eq n g (λ i t. rw t before) (λ i t. rw (t, before, same n (omega arith) i))
 
 -- WHAT SOURCES SAY of the three axes and buffers
-module _ (D p P f s t : ℕ) (F S T : List Float) (h : Sources D p P (three f s t) (three F S T)) where
+module _ (D p P f s t : ℕ) (F S T : List Float) (some : 1 ≤ p) (h : Sources D p P (three f s t) (three F S T)) where
   pub source_axes : (f < D) × (s < D) × (t < D)
   unfolding three
   source_axes = (h.axis 0, h.axis 1, h.axis 2)
@@ -101,13 +99,11 @@ module _ (D p P f s t : ℕ) (F S T : List Float) (h : Sources D p P (three f s 
   -- the columns of a node are within them
   pub source_room : (k : ℕ) → (place_of D p P k f + P ≤ length F) × (place_of D p P k s + P ≤ length S) × (place_of D p P k t + P ≤ length T)
   unfolding three
-  source_room k =
-      let some = h.shape.order_least in (
-        rw (h.long 0) (place_fits D p P k f some (h.axis 0)),
-        rw (h.long 1) (place_fits D p P k s some (h.axis 1)),
-        rw (h.long 2)
-            (place_fits D p P k t some (h.axis 2)),
-      )
+  source_room k = (
+    rw (h.long 0) (place_fits D p P k f some (h.axis 0)),
+    rw (h.long 1) (place_fits D p P k s some (h.axis 1)),
+    rw (h.long 2) (place_fits D p P k t some (h.axis 2)),
+  )
 
 -- the product of a node's columns, as they are lent
 chain_cong : (n : ℕ) (f g : ℕ → Float) → ((m : ℕ) → f m ≡ g m) → chain n f ≡ chain n g

@@ -1,9 +1,8 @@
 -- Columns that are products of one column an axis: a start, and the other axes in order.
-use Rattle.std.specs.Prelude.{◌≡◌, cond, List, ℕ, zero, suc, ◌+◌, ◌-◌, ◌*◌, ◌<◌, ◌≤◌, eqb, Float, length, get_or}
+use Rattle.std.specs.Prelude.{◌≡◌, cond, List, ℕ, zero, suc, ◌+◌, ◌-◌, ◌*◌, ◌<◌, eqb, Float, length, get_or}
 use Rattle.std.specs.Float.{nan}
 use Rattle.common.specs.Digits.{digit}
 use Rattle.common.specs.Floats.{times}
-use Rattle.common.specs.Refusals.{Shape, most_points}
 
 -- a start times f 0, times f 1, .. times f (n - 1), with f g left out
 unfoldable pub others : (g : ℕ) → (start : Float) → (n : ℕ) → (ℕ → Float) → Float
@@ -40,7 +39,5 @@ product_of D p P axes buffers i k = chain (D - 1) (λ m. get_or (buffers m) (pla
 
 -- the sources of a product: each axis is one, and each buffer has p columns of P rows an axis
 pub record Sources (D p P : ℕ) (axes : ℕ → ℕ) (buffers : ℕ → List Float) : Type 0 where
-  pub shape : Shape D p
-  pub few : P ≤ most_points
   pub axis : (m : ℕ) → axes m < D
   pub long : (m : ℕ) → length (buffers m) ≡ D * p * P

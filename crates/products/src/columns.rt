@@ -4,14 +4,13 @@ ghost use Rattle.std.specs.Float.{nan};
 ghost use Rattle.common.specs.Floats.{times};
 ghost use Rattle.common.specs.Lists.{tabulate};
 ghost use Rattle.common.specs.Matrices.{column_major};
-ghost use Rattle.common.specs.Refusals.{Shape, most_points};
 ghost use Rattle.products.specs.Products.{three, chain, place_of, product_of, started_of, Sources};
 ghost use Rattle.products.specs.Working.{second_axis, third_axis};
 
-use axes::Cell;
+use axes::Grid;
 
 // The axes of a product's sources, in their order; those past the dimension are not read.
-#[derive(Clone, Copy)]
+#[derive(Clone, Copy, PartialEq, Eq)]
 pub struct ThreeAxes {
     pub first: usize,
     pub second: usize,
@@ -19,13 +18,12 @@ pub struct ThreeAxes {
 }
 
 // Where the column of a node's index on an axis begins in a buffer.
-fn place_of(cell: Cell, axis: usize, node: usize) -> usize
-    requires { Shape cell.dimension cell.order × (cell.rows ≤ most_points) × (axis < cell.dimension) }
-    ensures { result ≡ place_of cell.dimension cell.order cell.rows node axis }
+fn place_of(grid: Grid, axis: usize, node: usize) -> usize
+    requires { axis < grid.shape.dimension }
+    ensures { result ≡ place_of grid.shape.dimension grid.shape.order grid.rows node axis }
 {
-    let dimension = cell.dimension;
-    let order = cell.order;
-    (axis * order + common::index_on(dimension, order, axis, node)) * cell.rows
+    let shape = grid.shape;
+    (axis * shape.order + shape.index_on(axis, node)) * grid.rows
 }
 
 fn multiply_two(rows: usize, first: &[f64], second: &[f64], column: &mut [f64])
@@ -33,23 +31,20 @@ fn multiply_two(rows: usize, first: &[f64], second: &[f64], column: &mut [f64])
     ensures { column.new ≡
         tabulate rows (λ i. times (get_or first.now i nan) (get_or second.now i nan)) }
 {
-    let mut i = 0;
-    while i < rows {
+    for i in 0..rows {
         column[i] = first[i] * second[i];
-        i += 1;
     }
 }
 
+// One pass for three, and not two of two: each row is loaded and stored once.
 fn multiply_three(rows: usize, first: &[f64], second: &[f64], third: &[f64], column: &mut [f64])
     requires { (length first.now ≡ rows) × (length second.now ≡ rows) × (length third.now ≡ rows) ×
         (length column.old ≡ rows) }
     ensures { column.new ≡ tabulate rows
         (λ i. times (times (get_or first.now i nan) (get_or second.now i nan)) (get_or third.now i nan)) }
 {
-    let mut i = 0;
-    while i < rows {
+    for i in 0..rows {
         column[i] = (first[i] * second[i]) * third[i];
-        i += 1;
     }
 }
 
@@ -78,7 +73,7 @@ fn multiply(
 
 // The column of one node.
 fn fill_product(
-    cell: Cell,
+    grid: Grid,
     axes: ThreeAxes,
     node: usize,
     first: &[f64],
@@ -86,21 +81,21 @@ fn fill_product(
     third: &[f64],
     column: &mut [f64],
 )
-    requires { Sources cell.dimension cell.order cell.rows (three axes.first axes.second axes.third)
-        (three first.now second.now third.now) × (length column.old ≡ cell.rows) }
-    ensures { column.new ≡ tabulate cell.rows
-        (λ i. product_of cell.dimension cell.order cell.rows (three axes.first axes.second axes.third)
+    requires { Sources grid.shape.dimension grid.shape.order grid.rows (three axes.first axes.second axes.third)
+        (three first.now second.now third.now) × (length column.old ≡ grid.rows) }
+    ensures { column.new ≡ tabulate grid.rows
+        (λ i. product_of grid.shape.dimension grid.shape.order grid.rows (three axes.first axes.second axes.third)
         (three first.now second.now third.now) i node) }
 {
-    let rows = cell.rows;
-    let a = place_of(cell, axes.first, node);
-    let b = place_of(cell, axes.second, node);
-    let c = place_of(cell, axes.third, node);
+    let rows = grid.rows;
+    let a = place_of(grid, axes.first, node);
+    let b = place_of(grid, axes.second, node);
+    let c = place_of(grid, axes.third, node);
     let a_end = a + rows;
     let b_end = b + rows;
     let c_end = c + rows;
     multiply(
-        cell.dimension,
+        grid.shape.dimension,
         rows,
         &first[a..a_end],
         &second[b..b_end],
@@ -111,28 +106,23 @@ fn fill_product(
 
 // The columns of all nodes, the last axis fastest.
 pub fn fill_products(
-    cell: Cell,
+    grid: Grid,
     axes: ThreeAxes,
     first: &[f64],
     second: &[f64],
     third: &[f64],
     out: &mut [f64],
 )
-    requires { Sources cell.dimension cell.order cell.rows (three axes.first axes.second axes.third)
-        (three first.now second.now third.now) × (length out.old ≡ cell.order ^ cell.dimension * cell.rows) }
-    ensures { out.new ≡ column_major cell.rows (cell.order ^ cell.dimension)
-        (product_of cell.dimension cell.order cell.rows (three axes.first axes.second axes.third)
+    requires { Sources grid.shape.dimension grid.shape.order grid.rows (three axes.first axes.second axes.third)
+        (three first.now second.now third.now) × (length out.old ≡ grid.shape.order ^ grid.shape.dimension * grid.rows) }
+    ensures { out.new ≡ column_major grid.rows (grid.shape.order ^ grid.shape.dimension)
+        (product_of grid.shape.dimension grid.shape.order grid.rows (three axes.first axes.second axes.third)
         (three first.now second.now third.now)) }
 {
-    let rows = cell.rows;
-    let nodes = common::power(cell.order, cell.dimension);
-    let mut node = 0;
-    let mut at = 0;
-    while node < nodes {
-        let end = at + rows;
-        fill_product(cell, axes, node, first, second, third, &mut out[at..end]);
-        at = end;
-        node += 1;
+    for node in 0..grid.shape.nodes() {
+        let at = node * grid.rows;
+        let end = at + grid.rows;
+        fill_product(grid, axes, node, first, second, third, &mut out[at..end]);
     }
 }
 
@@ -140,10 +130,10 @@ pub fn fill_products(
 fn second_axis(dimension: usize, axis: usize) -> usize
     ensures { result ≡ second_axis dimension axis }
 {
-    if dimension <= 1 {
+    if dimension <= 1 || axis != 0 {
         return 0;
     }
-    if axis == 0 { 1 } else { 0 }
+    1
 }
 
 fn third_axis(dimension: usize, axis: usize) -> usize
@@ -157,18 +147,18 @@ fn third_axis(dimension: usize, axis: usize) -> usize
 }
 
 // The columns of all nodes, for products that start with one axis of one buffer and go on with the others of another.
-pub fn fill_started(cell: Cell, axis: usize, starts: &[f64], factors: &[f64], out: &mut [f64])
-    requires { Shape cell.dimension cell.order × (cell.rows ≤ most_points) × (axis < cell.dimension) ×
-        (length starts.now ≡ cell.dimension * cell.order * cell.rows) ×
-        (length factors.now ≡ cell.dimension * cell.order * cell.rows) ×
-        (length out.old ≡ cell.order ^ cell.dimension * cell.rows) }
-    ensures { out.new ≡ column_major cell.rows (cell.order ^ cell.dimension)
-        (started_of cell.dimension cell.order cell.rows axis starts.now factors.now) }
+pub fn fill_started(grid: Grid, axis: usize, starts: &[f64], factors: &[f64], out: &mut [f64])
+    requires { (axis < grid.shape.dimension) ×
+        (length starts.now ≡ grid.shape.dimension * grid.shape.order * grid.rows) ×
+        (length factors.now ≡ grid.shape.dimension * grid.shape.order * grid.rows) ×
+        (length out.old ≡ grid.shape.order ^ grid.shape.dimension * grid.rows) }
+    ensures { out.new ≡ column_major grid.rows (grid.shape.order ^ grid.shape.dimension)
+        (started_of grid.shape.dimension grid.shape.order grid.rows axis starts.now factors.now) }
 {
     let axes = ThreeAxes {
         first: axis,
-        second: second_axis(cell.dimension, axis),
-        third: third_axis(cell.dimension, axis),
+        second: second_axis(grid.shape.dimension, axis),
+        third: third_axis(grid.shape.dimension, axis),
     };
-    fill_products(cell, axes, starts, factors, factors, out);
+    fill_products(grid, axes, starts, factors, factors, out);
 }

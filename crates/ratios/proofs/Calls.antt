@@ -7,7 +7,7 @@ use native.Mathlib.Omega.{arith}
 use lib.Ieee.{Float, lt}
 use lib.Ieee.Scale.{finite}
 use lib.ListN.{length}
-use borrow.Author.Tests.{ne_eqb, eqb-true}
+use borrow.Author.Tests.{eq-eqb, ne_eqb, eqb-true}
 use Rattle.common.specs.Floats.{zero₆₄}
 use Rattle.common.specs.Refusals.{is_dimension, is_order, most_points, Shape, order_number, shape_number, lower}
 use Rattle.common.proofs.Cases.{by_bool, by_eq, equal_and}
@@ -39,13 +39,34 @@ unfolding floor_number is_floor
 floor_low floor e = rw e
 
 module _ (N P : ℕ) (c n o : List Float) (a : List ℕ) (r : List Float) where
-  pub lengths_taken : lengths_fit N P c n o a r ≡ true → 0 ≡ lengths_number N P c n o a r
-  unfolding lengths_number
-  lengths_taken e = rw e
+  pub wrong_first : (length c ≡ N → ⊥) → 7 ≡ lengths_number N P c n o a r
+  unfolding lengths_number lengths_fit
+  wrong_first h = rw (ne_eqb _ _ h)
 
-  pub lengths_wrong : lengths_fit N P c n o a r ≡ false → 7 ≡ lengths_number N P c n o a r
-  unfolding lengths_number
-  lengths_wrong e = rw e
+  module _ (fit-c : length c ≡ N) where
+    pub wrong_second : (length n ≡ N → ⊥) → 7 ≡ lengths_number N P c n o a r
+    unfolding lengths_number lengths_fit
+    wrong_second h = rw (eq-eqb _ _ fit-c, ne_eqb _ _ h)
+
+    module _ (fit-n : length n ≡ N) where
+      pub wrong_third : (length o ≡ N → ⊥) → 7 ≡ lengths_number N P c n o a r
+      unfolding lengths_number lengths_fit
+      wrong_third h = rw (eq-eqb _ _ fit-c, eq-eqb _ _ fit-n, ne_eqb _ _ h)
+
+      module _ (fit-o : length o ≡ N) where
+        pub wrong_fourth : (length a ≡ P → ⊥) → 7 ≡ lengths_number N P c n o a r
+        unfolding lengths_number lengths_fit
+        wrong_fourth h = rw (eq-eqb _ _ fit-c, eq-eqb _ _ fit-n, eq-eqb _ _ fit-o, ne_eqb _ _ h)
+
+        module _ (fit-a : length a ≡ P) where
+          pub wrong_fifth : (length r ≡ P → ⊥) → 7 ≡ lengths_number N P c n o a r
+          unfolding lengths_number lengths_fit
+          wrong_fifth h = rw (eq-eqb _ _ fit-c, eq-eqb _ _ fit-n, eq-eqb _ _ fit-o, eq-eqb _ _ fit-a, ne_eqb _ _ h)
+
+          module _ (fit-r : length r ≡ P) where
+            pub lengths_taken : 0 ≡ lengths_number N P c n o a r
+            unfolding lengths_number lengths_fit
+            lengths_taken = rw (eq-eqb _ _ fit-c, eq-eqb _ _ fit-n, eq-eqb _ _ fit-o, eq-eqb _ _ fit-a, eq-eqb _ _ fit-r)
 
   -- it is 7, or none
   lengths_seven : (lengths_number N P c n o a r ≡ 0 → ⊥) → lengths_number N P c n o a r ≡ 7
@@ -69,9 +90,13 @@ lower_none m k =
     by_eq m 0 (λ z e. rw e λ h. (z, h))
     (λ d e. rw e (by_eq k 0 (λ z e'. rw e' λ h. absurd (d h)) (λ d' e'. rw e' λ h. absurd (omega (arith, d, d')))))
 
-or_refused : (m last : ℕ) → (m ≡ 0 → ⊥) → or_last m last ≡ m
+pub or_refused : (m last : ℕ) → (m ≡ 0 → ⊥) → or_last m last ≡ m
 unfolding or_last
 or_refused m last h = rw (ne_eqb m 0 h)
+
+pub or_done : (last : ℕ) → last ≡ or_last 0 last
+unfolding or_last
+or_done last = refl
 
 or_none : (m last : ℕ) → or_last m last ≡ 0 → (m ≡ 0) × (last ≡ 0)
 unfolding or_last
@@ -99,7 +124,20 @@ module _ (D p P : ℕ) (side : Float) (centre t x v f : List Float) where
   unfolding scale_call
   below_lowest r m n e e' e'' = rw (e, e', e'') (lowest_asked_first D p P side false centre t x v [] f [])
 
-  -- and made
+  -- and made: neither refuses
+  pub scale_taken : (coefficients_call D p P side false centre t (x, v, [], f, [])).0 ≡ 0 → (r : ℕ) (x' : List Float) →
+      (r, x') ≡ scale_call D P side centre x → r ≡ 0
+  scale_taken z r x' e =
+      ap (λ (s : ℕ × List Float). s.0) e ∙ (lower_none _ _ (lowest_of_two D p P side false centre t x v [] f [] ∙ z)).0
+
+  pub found_taken : (coefficients_call D p P side false centre t (x, v, [], f, [])).0 ≡ 0 → (r k : ℕ) (x' : List Float) (m : Found) →
+      (r, x') ≡ scale_call D P side centre x → (k, m) ≡ found_at D p P Values t x' (v, [], f, []) → k ≡ 0
+  found_taken z r k x' m e e' =
+      let points : x' ≡ (scaled D p P side false centre t x v [] f []).1 = ap (λ (s : ℕ × List Float). s.1) e in
+      ap (λ (s : ℕ × Found). s.0) e' ∙ ap (λ (y : List Float). (found_at D p P Values t y (v, [], f, [])).0) points
+      ∙ (lower_none _ _ (lowest_of_two D p P side false centre t x v [] f [] ∙ z)).1
+
+  -- and what they leave
   pub values_made : (coefficients_call D p P side false centre t (x, v, [], f, [])).0 ≡ 0 → (r k : ℕ) (x' v' g' f' d' : List Float) →
       (r, x') ≡ scale_call D P side centre x → length g' ≡ 0 → length d' ≡ 0 →
       (k, (v', g', f', d')) ≡ found_at D p P Values t x' (v, [], f, []) →

@@ -4,11 +4,13 @@
 mod limits;
 
 ghost use Rattle.std.specs.Prelude.{◌≡◌, false, []};
+ghost use Rattle.common.specs.Numbers.{told_number};
 ghost use Rattle.coefficients.specs.Before.{coefficients_call};
 ghost use Rattle.ratios.specs.Ratios.{ratios_call};
 
-use crate::limits::ratios_number;
+use crate::limits::shape_of;
 use coefficients::{Cell, Wanted, get_approximation_coefficients, scale_points};
+use common::Refusal;
 use fields::fill_answers;
 
 // The points scaled, and the value coefficients there. That both calls accept is known beforehand.
@@ -26,7 +28,7 @@ fn fill_values(
         coefficients_call cell.dimension cell.order cell.rows cell.side false centre.now
         node_polynomials.now (points.old, values.old, [], factors.old, []) }
 {
-    scale_points(cell.dimension, cell.rows, cell.side, centre, points);
+    scale_points(cell.dimension, cell.rows, cell.side, centre, points).unwrap();
     let mut no_gradients = [0.0; 0];
     let mut no_slopes = [0.0; 0];
     get_approximation_coefficients(
@@ -40,7 +42,8 @@ fn fill_values(
         &mut no_gradients,
         factors,
         &mut no_slopes,
-    );
+    )
+    .unwrap();
 }
 
 // The ratio 100 * CO / (0.265 * N2 - O2) at each of the points, where the deficiency below it is at least the floor: an answer a
@@ -59,13 +62,13 @@ pub fn graham_ratios(
     factors: &mut [f64],
     answers: &mut [u8],
     ratios: &mut [f64],
-) -> u8
-    ensures { (result, (points.new, values.new, factors.new, answers.new, ratios.new)) ≡
+) -> Result<(), Refusal>
+    ensures { (told_number result, (points.new, values.new, factors.new, answers.new, ratios.new)) ≡
         ratios_call cell.dimension cell.order cell.rows cell.side floor centre.now
         node_polynomials.now carbon_monoxide.now nitrogen.now oxygen.now
         (points.old, values.old, factors.old, answers.old, ratios.old) }
 {
-    let refused = ratios_number(
+    let shape = shape_of(
         cell,
         floor,
         centre,
@@ -78,13 +81,10 @@ pub fn graham_ratios(
         factors,
         answers,
         ratios,
-    );
-    if refused != 0 {
-        return refused;
-    }
+    )?;
     fill_values(cell, centre, node_polynomials, points, values, factors);
     fill_answers(
-        common::power(cell.order, cell.dimension),
+        shape.nodes(),
         cell.rows,
         floor,
         values,
@@ -94,5 +94,5 @@ pub fn graham_ratios(
         answers,
         ratios,
     );
-    0
+    Ok(())
 }

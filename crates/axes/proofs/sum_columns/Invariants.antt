@@ -1,5 +1,5 @@
 -- `axes::sum_columns` meets its contract. The loop keeps `Stepping`: the columns before `node` are summed. Assumes nothing.
-use Prim.Native.Nat.{◌-◌}
+use Prim.Native.Nat.{◌+◌, ◌*◌}
 use Rattle.common.specs.Matrices.{cell}
 use Rattle.common.proofs.Steps.{Stepping}
 use Rattle.axes.specs.Axes.{sum_of}
@@ -7,7 +7,4 @@ use Rattle.axes.proofs.sum_columns.Given as goal
 
 abbrev pub invariant-loop-node : goal.invariant-loop-node
 invariant-loop-node l = Stepping l.at l.order l.rows
-    (cell l.rows (sum_of l.order l.rows l.polynomials l.node_polynomials)) l.initial.out l.out l.node l.to
-
-abbrev pub decreases-loop-node : goal.decreases-loop-node
-decreases-loop-node l = l.order - l.node
+    (cell l.rows (sum_of l.order l.rows l.polynomials l.node_polynomials)) l.initial.out l.out l.node (l.at + l.node * l.rows)

@@ -2,7 +2,7 @@
 use mathlib.Core.Path.{◌≡◌}
 use mathlib.Core.Bool.{Bool, true}
 use mathlib.Core.List.{List}
-use Prim.Native.Nat.{ℕ, ◌-◌, ◌*◌, ◌≤◌}
+use Prim.Native.Nat.{ℕ}
 use lib.Ieee.{Float}
 use Rattle.common.specs.Tests.{each}
 use Rattle.coordinates.specs.Coordinates.{coordinate, in_cell}
@@ -14,7 +14,4 @@ on rows side centre points axis = each rows (λ i. in_cell (coordinate rows side
 
 abbrev pub invariant-loop-axis : goal.invariant-loop-axis
 invariant-loop-axis l =
-    (l.axis ≤ l.dimension) × (l.at ≡ l.axis * l.rows) × (each l.axis (on l.rows l.side l.centre l.points) ≡ true)
-
-abbrev pub decreases-loop-axis : goal.decreases-loop-axis
-decreases-loop-axis l = l.dimension - l.axis
+    each l.axis (on l.rows l.side l.centre l.points) ≡ true

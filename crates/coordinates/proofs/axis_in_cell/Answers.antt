@@ -12,7 +12,7 @@ use Rattle.coordinates.proofs.axis_in_cell.Goals as goal
 
 pub loop-i-init : goal.loop-i-init
 unfolding each
-loop-i-init c = (omega arith, refl)
+loop-i-init c = refl
 
 pub loop-i-preserved : goal.loop-i-preserved
 loop-i-preserved c =
@@ -20,10 +20,10 @@ loop-i-preserved c =
     let a = c.args in
     let is-in : ℕ → Bool = λ j. in_cell (coordinate_in a.side a.centre (get_or a.points.now (a.at + j) nan)) in
     let this : c.is_in_cell-are_in.result ≡ is-in l.i = c.is_in_cell-are_in.ensures ∙ ap in_cell c.scale-x.ensures in
-    (omega arith, rw (l.invariant.1, this) (sym (each_next l.i is-in)))
+    rw (l.invariant, this) (sym (each_next l.i is-in))
 
 pub returns : goal.returns
 returns c =
     let l = c.loop-i in
-    let all : l.i ≡ c.args.rows = omega (arith, l.invariant.0) in
-    rw all at l.invariant.1
+    let all : l.i ≡ c.args.rows = omega arith in
+    rw all at l.invariant

@@ -1,6 +1,6 @@
 -- `coordinates::axis_in_cell` meets its contract. The loop keeps: whether the first i points are in the cell. Assumes nothing.
 use mathlib.Core.Path.{◌≡◌}
-use Prim.Native.Nat.{◌+◌, ◌-◌, ◌≤◌}
+use Prim.Native.Nat.{◌+◌}
 use lib.Ieee.{nan}
 use lib.ListN.{get_or}
 use Rattle.common.specs.Tests.{each}
@@ -9,7 +9,4 @@ use Rattle.coordinates.proofs.axis_in_cell.Given as goal
 
 abbrev pub invariant-loop-i : goal.invariant-loop-i
 invariant-loop-i l =
-    (l.i ≤ l.rows) × (l.are_in ≡ each l.i (λ j. in_cell (coordinate_in l.side l.centre (get_or l.points (l.at + j) nan))))
-
-abbrev pub decreases-loop-i : goal.decreases-loop-i
-decreases-loop-i l = l.rows - l.i
+    l.are_in ≡ each l.i (λ j. in_cell (coordinate_in l.side l.centre (get_or l.points (l.at + j) nan)))

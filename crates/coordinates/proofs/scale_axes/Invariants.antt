@@ -1,6 +1,6 @@
 -- `coordinates::scale_axes` meets its contract. The loop keeps `Stepping`: the axes before `axis` are scaled. Assumes
 -- nothing.
-use Prim.Native.Nat.{◌-◌}
+use Prim.Native.Nat.{◌*◌}
 use Rattle.common.specs.Matrices.{cell}
 use Rattle.common.proofs.Steps.{Stepping}
 use Rattle.coordinates.specs.Coordinates.{coordinate}
@@ -8,7 +8,4 @@ use Rattle.coordinates.proofs.scale_axes.Given as goal
 
 abbrev pub invariant-loop-axis : goal.invariant-loop-axis
 invariant-loop-axis l = Stepping 0 l.dimension l.rows
-    (cell l.rows (coordinate l.rows l.side l.centre l.initial.points)) l.initial.points l.points l.axis l.at
-
-abbrev pub decreases-loop-axis : goal.decreases-loop-axis
-decreases-loop-axis l = l.dimension - l.axis
+    (cell l.rows (coordinate l.rows l.side l.centre l.initial.points)) l.initial.points l.points l.axis (l.axis * l.rows)

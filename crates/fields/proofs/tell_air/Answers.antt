@@ -18,20 +18,11 @@ module _ (c : In-loop-i) where
   in_ratios : c.args.from + c.loop-i.i < length c.loop-i.ratios
   in_ratios = omega (arith, c.loop-i.invariant.ratios.long, c.requires.ratios, c.loop-i-test.true)
 
-pub offset_bounds-carbon_monoxide-i : goal.offset_bounds-carbon_monoxide-i
-offset_bounds-carbon_monoxide-i c = omega (arith, c.requires.carbon_monoxide)
-
 pub bounds-carbon_monoxide-i : goal.bounds-carbon_monoxide-i
 bounds-carbon_monoxide-i c = omega (arith, c.requires.carbon_monoxide)
 
-pub offset_bounds-nitrogen-i : goal.offset_bounds-nitrogen-i
-offset_bounds-nitrogen-i c = omega (arith, c.requires.nitrogen)
-
 pub bounds-nitrogen-i : goal.bounds-nitrogen-i
 bounds-nitrogen-i c = omega (arith, c.requires.nitrogen)
-
-pub offset_bounds-oxygen-i : goal.offset_bounds-oxygen-i
-offset_bounds-oxygen-i c = omega (arith, c.requires.oxygen)
 
 pub bounds-oxygen-i : goal.bounds-oxygen-i
 bounds-oxygen-i c = omega (arith, c.requires.oxygen)
@@ -41,9 +32,6 @@ overflow_add-from c = omega (arith, in_answers (goal.at.overflow_add-from c).In-
 
 pub put_air-requires : goal.put_air-requires
 put_air-requires c = (in_answers (goal.at.put_air-requires c).In-loop-i, in_ratios (goal.at.put_air-requires c).In-loop-i)
-
-pub loop-i-smaller : goal.loop-i-smaller
-loop-i-smaller c = omega arith
 
 pub loop-i-preserved : goal.loop-i-preserved
 loop-i-preserved c =

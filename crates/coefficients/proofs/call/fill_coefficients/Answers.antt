@@ -12,15 +12,13 @@ pub fill_axes-requires : goal.fill_axes-requires
 fill_axes-requires c =
     let h = c.requires in
     let a = c.args in
-    let nodes = nodes_side a.cell.dimension a.cell.order a.cell.rows h.shape.order_least h.shape.dimension_least in
-    let room = axis_side a.cell.dimension (a.cell.order ^ a.cell.dimension) a.cell.rows h.shape.dimension_least in
+    let nodes = nodes_side a.grid.shape.dimension a.grid.shape.order a.grid.rows a.grid.shape.taken.order_least a.grid.shape.taken.dimension_least in
+    let room = axis_side a.grid.shape.dimension (a.grid.shape.order ^ a.grid.shape.dimension) a.grid.rows a.grid.shape.taken.dimension_least in
     record {
-      shape = h.shape;
-      few = h.few;
       points = h.coordinates;
       polynomials = h.polynomials;
       values = omega (arith, nodes, h.values);
-      gradients = wanted_fits a.is_derived _ (a.cell.dimension * a.cell.order ^ a.cell.dimension * a.cell.rows) _
+      gradients = wanted_fits a.is_derived _ (a.grid.shape.dimension * a.grid.shape.order ^ a.grid.shape.dimension * a.grid.rows) _
           (omega (arith, nodes, room)) h.gradients;
       factors = h.factors;
       slopes = h.slopes;
@@ -30,8 +28,6 @@ pub fill_gradients-requires : goal.fill_gradients-requires
 fill_gradients-requires c =
     let h = c.requires in
     let kept = c.fill_axes.auto in (
-      h.shape,
-      h.few,
       kept.slopes ∙ h.slopes,
       kept.factors ∙ h.factors,
       kept.gradients ∙ h.gradients,
@@ -41,7 +37,7 @@ pub fill_started-requires : goal.fill_started-requires
 fill_started-requires c =
     let h = c.requires in
     let factors = c.fill_axes.auto.factors ∙ h.factors in
-    (h.shape, h.few, h.shape.dimension_least, factors, factors, c.fill_axes.auto.values ∙ h.values)
+    (c.args.grid.shape.taken.dimension_least, factors, factors, c.fill_axes.auto.values ∙ h.values)
 
 pub shape_of-gradients : goal.shape_of-gradients
 shape_of-gradients c =
@@ -53,7 +49,7 @@ returns c =
     let h = c.requires in
     let a = c.args in
     let call = c.fill_axes in
-    memory_right a.cell.dimension a.cell.order a.cell.rows a.node_polynomials.now
-    (matrix a.cell.rows a.coordinates.now) h.shape.order_least a.cell.side a.is_derived h.shape.dimension_least
+    memory_right a.grid.shape.dimension a.grid.shape.order a.grid.rows a.node_polynomials.now
+    (matrix a.grid.rows a.coordinates.now) a.grid.shape.taken.order_least a.grid.side a.is_derived a.grid.shape.taken.dimension_least
     _ _ _ _ a.slopes.now _ call.ensures.0 h.slopes call.ensures.1 (call.auto.gradients ∙ h.gradients)
     c.fill_gradients.ensures c.fill_started.ensures

@@ -18,36 +18,33 @@ use Rattle.coefficients.proofs.columns.fill_axes_columns.Goals as goal
 -- the axis's columns have their place
 room : (c : In-loop-axis) →
     let a = c.args in
-    c.loop-axis.at + c.power.result * a.cell.rows ≤ length c.loop-axis.gradients
+    c.loop-axis.at + c.nodes.result * a.grid.rows ≤ length c.loop-axis.gradients
 room c =
     let a = c.args in
     let l = c.loop-axis in
-    let whole : a.cell.dimension * (c.power.result * a.cell.rows) ≤ length a.gradients.now =
-    rw (c.power.ensures, ← mul_assoc) (omega (arith, c.requires.4)) in
+    let whole : a.grid.shape.dimension * (c.nodes.result * a.grid.rows) ≤ length a.gradients.now =
+    rw (c.nodes.ensures, ← mul_assoc) (omega (arith, c.requires.2)) in
     omega (
       arith,
-      stepping_fits 0 a.cell.dimension _ (cell a.cell.rows
-          (gradient_of a.cell.dimension a.cell.order a.cell.rows a.slopes.now a.factors.now)) _ _ _ _ l.invariant
+      stepping_fits 0 a.grid.shape.dimension _ (cell a.grid.rows
+          (gradient_of a.grid.shape.dimension a.grid.shape.order a.grid.rows a.slopes.now a.factors.now)) _ _ _ _ l.invariant
           c.loop-axis-test.true,
       l.invariant.long,
     )
 
-pub power-requires : goal.power-requires
-power-requires c = (c.requires.0.order_most, c.requires.0.dimension_most)
-
 pub overflow_mul-count : goal.overflow_mul-count
 overflow_mul-count c =
     let a = c.args in
-    let most = power_most a.cell.order a.cell.dimension c.requires.0.order_most c.requires.0.dimension_most in
+    let most = power_most a.grid.shape.order a.grid.shape.dimension a.grid.shape.taken.order_most a.grid.shape.taken.dimension_most in
     omega (
       arith,
-      mul-le-mul {n₁ = c.power.result} {m₁ = a.cell.rows} {n₂ = 4096} {m₂ = 4096}
-          (rw c.power.ensures most) c.requires.1,
+      mul-le-mul {n₁ = c.nodes.result} {m₁ = a.grid.rows} {n₂ = 4096} {m₂ = 4096}
+          (rw c.nodes.ensures most) a.grid.few,
     )
 
 pub loop-axis-init : goal.loop-axis-init
-loop-axis-init c = let a = c.args in stepping_none 0 a.cell.dimension _
-    (cell a.cell.rows (gradient_of a.cell.dimension a.cell.order a.cell.rows a.slopes.now a.factors.now)) _
+loop-axis-init c = let a = c.args in stepping_none 0 a.grid.shape.dimension _
+    (cell a.grid.rows (gradient_of a.grid.shape.dimension a.grid.shape.order a.grid.rows a.slopes.now a.factors.now)) _
 
 pub overflow_add-end : goal.overflow_add-end
 overflow_add-end c = omega (arith, room (goal.at.overflow_add-end c).In-loop-axis, c.loop-axis.invariant.long, c.well_formed)
@@ -61,13 +58,11 @@ slice_bounds-fill_started-end c = omega (arith, room (goal.at.slice_bounds-fill_
 pub fill_started-requires : goal.fill_started-requires
 fill_started-requires c =
     let a = c.args in
-    let n = c.power.ensures in (
+    let n = c.nodes.ensures in (
+      c.loop-axis-test.true,
       c.requires.0,
       c.requires.1,
-      c.loop-axis-test.true,
-      c.requires.2,
-      c.requires.3,
-      part_length _ _ (a.cell.order ^ a.cell.dimension * a.cell.rows) _ (ap (λ (k : ℕ). c.loop-axis.at + k * a.cell.rows) n)
+      part_length _ _ (a.grid.shape.order ^ a.grid.shape.dimension * a.grid.rows) _ (ap (λ (k : ℕ). c.loop-axis.at + k * a.grid.rows) n)
           (rw n at (room (goal.at.fill_started-requires c).In-loop-axis)),
     )
 
@@ -75,9 +70,9 @@ pub loop-axis-preserved : goal.loop-axis-preserved
 loop-axis-preserved c =
     let a = c.args in
     let l = c.loop-axis in
-    gradient_more a.cell.dimension a.cell.order a.cell.rows a.slopes.now a.factors.now l.axis a.gradients.now
+    gradient_more a.grid.shape.dimension a.grid.shape.order a.grid.rows a.slopes.now a.factors.now l.axis a.gradients.now
     l.gradients _ _ l.at
-    c.power.ensures c.loop-axis-test.true c.requires.4 l.invariant c.fill_started.ensures
+    c.nodes.ensures c.loop-axis-test.true c.requires.2 l.invariant c.fill_started.ensures
 
 pub shape_of-gradients : goal.shape_of-gradients
 shape_of-gradients c = c.loop-axis.invariant.long
@@ -85,8 +80,8 @@ shape_of-gradients c = c.loop-axis.invariant.long
 pub returns : goal.returns
 returns c =
     let a = c.args in
-    let done = stepping_done 0 a.cell.dimension _ (cell a.cell.rows
-    (gradient_of a.cell.dimension a.cell.order a.cell.rows a.slopes.now a.factors.now)) _ _ _ _
+    let done = stepping_done 0 a.grid.shape.dimension _ (cell a.grid.rows
+    (gradient_of a.grid.shape.dimension a.grid.shape.order a.grid.rows a.slopes.now a.factors.now)) _ _ _ _
     c.loop-axis.invariant c.loop-axis-test.false in
-    rw (c.power.ensures, ← mul_assoc) at done
-    ∙ columns_filled a.cell.rows _ (a.cell.dimension * a.cell.order ^ a.cell.dimension) a.gradients.now c.requires.4
+    rw (c.nodes.ensures, ← mul_assoc) at done
+    ∙ columns_filled a.grid.rows _ (a.grid.shape.dimension * a.grid.shape.order ^ a.grid.shape.dimension) a.gradients.now c.requires.2

@@ -5,7 +5,7 @@ use Rattle.coefficients.proofs.columns.fill_gradients.Goals as goal
 pub fill_axes_columns-requires : goal.fill_axes_columns-requires
 fill_axes_columns-requires c =
     let w = c.if-with_gradients.true in
-    (c.requires.0, c.requires.1, rw w at c.requires.2, c.requires.3, rw w at c.requires.4)
+    (rw w at c.requires.0, c.requires.1, rw w at c.requires.2)
 
 pub returns-then-with_gradients : goal.returns-then-with_gradients
 returns-then-with_gradients c =

@@ -1,7 +1,10 @@
--- `coefficients::limits::coefficients_number` meets its contract: the lowest number of the lengths that were lent. Assumes nothing.
-use Rattle.coefficients.specs.Coefficients.{coefficients_call}
+-- `coefficients::limits::coefficients_number` meets its contract: what the search for a grid answers, without the grid. Assumes nothing.
+use mathlib.Core.Path.{◌∙◌}
+use Rattle.common.proofs.Numbers.{handed_on}
 use Rattle.coefficients.proofs.limits.coefficients_number.Goals as goal
 
+pub returns-in_err-grid_of : goal.returns-in_err-grid_of
+returns-in_err-grid_of c = handed_on _ _ c.from_residual.ensures.1 ∙ c.in_err-grid_of.ensures.number
+
 pub returns : goal.returns
-unfolding coefficients_call
-returns c = c.lowest_number.ensures
+returns c = c.in_ok-grid_of.ensures.number

@@ -12,37 +12,33 @@ pub fill_bent_axes-requires : goal.fill_bent_axes-requires
 fill_bent_axes-requires c =
     let p = c.requires in
     record {
-      shape = p.0;
-      few = p.1;
-      points = ap (λ (l : Lengths). l.coordinates) p.2;
-      polynomials = ap (λ (l : Lengths). l.polynomials) p.2;
-      room = ap (λ (l : Lengths). l.room) p.2;
-      factors = ap (λ (l : Lengths). l.factors) p.2;
-      slopes = ap (λ (l : Lengths). l.slopes) p.2;
-      bends = ap (λ (l : Lengths). l.bends) p.2;
+      points = ap (λ (l : Lengths). l.coordinates) p;
+      polynomials = ap (λ (l : Lengths). l.polynomials) p;
+      room = ap (λ (l : Lengths). l.room) p;
+      factors = ap (λ (l : Lengths). l.factors) p;
+      slopes = ap (λ (l : Lengths). l.slopes) p;
+      bends = ap (λ (l : Lengths). l.bends) p;
     }
 
 pub fill_pairs-requires : goal.fill_pairs-requires
 fill_pairs-requires c =
     let a = c.args in
     let e = c.fill_bent_axes.ensures in
-    let P = a.cell.rows in
-    let n = a.cell.dimension * a.cell.order in (
+    let P = a.grid.rows in
+    let n = a.grid.shape.dimension * a.grid.shape.order in (
       record {
-        shape = c.requires.0;
-        few = c.requires.1;
         long_factors = ap length e.1 ∙ column_length P _ n;
         long_slopes = ap length e.2 ∙ column_length P _ n;
         long_bends = ap length e.3 ∙ column_length P _ n;
       },
-      ap (λ (l : Lengths). l.curvatures) c.requires.2,
+      ap (λ (l : Lengths). l.curvatures) c.requires,
     )
 
 pub returns : goal.returns
 returns c =
     let a = c.args in
-    let h = c.requires.0 in
+    let h = a.grid.shape.taken in
     let e = c.fill_bent_axes.ensures in
-    memory_right a.cell.dimension a.cell.order a.cell.rows a.cell.side a.node_polynomials.now
-    (matrix a.cell.rows a.coordinates.now) h.order_least h.dimension_most _ _ _ e.1 e.2 e.3 _ _
+    memory_right a.grid.shape.dimension a.grid.shape.order a.grid.rows a.grid.side a.node_polynomials.now
+    (matrix a.grid.rows a.coordinates.now) h.order_least h.dimension_most _ _ _ e.1 e.2 e.3 _ _
     c.fill_pairs.ensures e.0

@@ -8,7 +8,7 @@ use Rattle.curvatures.proofs.columns.fill_pair.Goals as goal
 pub fill_products-requires : goal.fill_products-requires
 fill_products-requires c =
     let a = c.args in (
-      pair_sources a.cell.dimension a.cell.order a.cell.rows a.factors.now a.slopes.now a.bends.now c.requires.0
+      pair_sources a.grid.shape.dimension a.grid.shape.order a.grid.rows a.factors.now a.slopes.now a.bends.now a.grid.shape.taken.dimension_most c.requires.0
           a.pair _ c.third_axis.ensures (lt_of_le-ne c.requires.1 c.if-pair.false) c.requires.2,
       c.requires.3,
     )
@@ -17,14 +17,14 @@ pub returns-then-pair : goal.returns-then-pair
 returns-then-pair c =
     let a = c.args in
     c.fill_started.ensures
-    ∙ pair_one a.cell.dimension a.cell.order a.cell.rows a.factors.now a.slopes.now a.bends.now c.requires.0
-    a.pair c.if-pair.true (a.cell.order ^ a.cell.dimension)
+    ∙ pair_one a.grid.shape.dimension a.grid.shape.order a.grid.rows a.factors.now a.slopes.now a.bends.now a.grid.shape.taken.dimension_most c.requires.0
+    a.pair c.if-pair.true (a.grid.shape.order ^ a.grid.shape.dimension)
 
 pub returns-else-pair : goal.returns-else-pair
 returns-else-pair c =
     let a = c.args in
     c.fill_products.ensures
-    ∙ pair_two a.cell.dimension a.cell.order a.cell.rows a.factors.now a.slopes.now a.bends.now c.requires.0
+    ∙ pair_two a.grid.shape.dimension a.grid.shape.order a.grid.rows a.factors.now a.slopes.now a.bends.now a.grid.shape.taken.dimension_most c.requires.0
     a.pair _ c.third_axis.ensures (lt_of_le-ne c.requires.1
     c.if-pair.false) c.requires.2
-    (a.cell.order ^ a.cell.dimension)
+    (a.grid.shape.order ^ a.grid.shape.dimension)

@@ -18,41 +18,38 @@ use Rattle.curvatures.proofs.columns.fill_pairs.Goals as goal
 
 -- the pair's columns have their place
 room : (t : In-loop-q) →
-    t.loop-q.at + t.power.result * t.args.cell.rows ≤ length t.loop-q.curvatures
+    t.loop-q.at + t.nodes.result * t.args.grid.rows ≤ length t.loop-q.curvatures
 room t =
     let a = t.args in
     let l = t.loop-q in
-    let n = t.power.result in
+    let n = t.nodes.result in
     let m = t.pair_count-pairs.result in
-    let whole = pairs_fit a.cell.dimension a.cell.order a.cell.rows a.factors.now a.slopes.now a.bends.now
-    a.curvatures.now m n t.pair_count-pairs.ensures t.power.ensures t.requires.1 in
+    let whole = pairs_fit a.grid.shape.dimension a.grid.shape.order a.grid.rows a.factors.now a.slopes.now a.bends.now
+    a.curvatures.now m n t.pair_count-pairs.ensures t.nodes.ensures t.requires.1 in
     omega (
       arith,
-      stepping_fits 0 m _ (cell a.cell.rows
-          (curvature_of a.cell.dimension a.cell.order a.cell.rows a.factors.now a.slopes.now a.bends.now)) _ _ _ _
+      stepping_fits 0 m _ (cell a.grid.rows
+          (curvature_of a.grid.shape.dimension a.grid.shape.order a.grid.rows a.factors.now a.slopes.now a.bends.now)) _ _ _ _
           l.invariant t.loop-q-test.true,
       l.invariant.long,
       whole,
     )
 
-below : (t : In-loop-q) → t.loop-q.q < pair_count t.args.cell.dimension
+below : (t : In-loop-q) → t.loop-q.q < pair_count t.args.grid.shape.dimension
 below t = omega (arith, t.loop-q-test.true, t.pair_count-pairs.ensures)
 
 pub pair_count-pairs-requires : goal.pair_count-pairs-requires
-pair_count-pairs-requires c = c.requires.0.shape.dimension_most
-
-pub power-requires : goal.power-requires
-power-requires c = let h = c.requires.0.shape in (h.order_most, h.dimension_most)
+pair_count-pairs-requires c = c.args.grid.shape.taken.dimension_most
 
 pub overflow_mul-count : goal.overflow_mul-count
 overflow_mul-count c =
     let a = c.args in
-    let h = c.requires.0.shape in
-    let most = power_most a.cell.order a.cell.dimension h.order_most h.dimension_most in
+    let h = c.args.grid.shape.taken in
+    let most = power_most a.grid.shape.order a.grid.shape.dimension h.order_most h.dimension_most in
     omega (
       arith,
-      mul-le-mul {n₁ = c.power.result} {m₁ = a.cell.rows} {n₂ = 4096} {m₂ = 4096} (rw c.power.ensures most)
-          c.requires.0.few,
+      mul-le-mul {n₁ = c.nodes.result} {m₁ = a.grid.rows} {n₂ = 4096} {m₂ = 4096} (rw c.nodes.ensures most)
+          a.grid.few,
     )
 
 pub loop-q-init : goal.loop-q-init
@@ -62,7 +59,7 @@ pub overflow_add-end : goal.overflow_add-end
 overflow_add-end c = omega (arith, room (goal.at.overflow_add-end c).In-loop-q, c.loop-q.invariant.long, c.well_formed)
 
 pub pair_at-pair-requires : goal.pair_at-pair-requires
-pair_at-pair-requires c = let h = c.requires.0.shape in (h.dimension_least, h.dimension_most, below (goal.at.pair_at-pair-requires c).In-loop-q)
+pair_at-pair-requires c = let h = c.args.grid.shape.taken in (h.dimension_least, h.dimension_most, below (goal.at.pair_at-pair-requires c).In-loop-q)
 
 pub offset_bounds-curvatures-at : goal.offset_bounds-curvatures-at
 offset_bounds-curvatures-at c = omega (arith, room (goal.at.offset_bounds-curvatures-at c).In-loop-q, c.loop-q.invariant.long, c.well_formed)
@@ -77,13 +74,13 @@ in_pair e h = rw e h
 pub fill_pair-requires : goal.fill_pair-requires
 fill_pair-requires c =
     let a = c.args in
-    let n = c.power.ensures in
+    let n = c.nodes.ensures in
     let rises = in_pair c.pair_at-pair.ensures
-    (pair_rises a.cell.dimension c.loop-q.q c.requires.0.shape.dimension_most (below (goal.at.fill_pair-requires c).In-loop-q)) in (
+    (pair_rises a.grid.shape.dimension c.loop-q.q c.args.grid.shape.taken.dimension_most (below (goal.at.fill_pair-requires c).In-loop-q)) in (
       c.requires.0,
       rises.0,
       rises.1,
-      pair_lent a.cell.dimension a.cell.order a.cell.rows a.factors.now a.slopes.now a.bends.now
+      pair_lent a.grid.shape.dimension a.grid.shape.order a.grid.rows a.factors.now a.slopes.now a.bends.now
           a.curvatures.now _ _ c.pair_count-pairs.ensures n c.requires.1 c.loop-q.curvatures
           c.loop-q.at (room (goal.at.fill_pair-requires c).In-loop-q),
     )
@@ -92,8 +89,8 @@ pub loop-q-preserved : goal.loop-q-preserved
 loop-q-preserved c =
     let a = c.args in
     let l = c.loop-q in
-    pair_more a.cell.dimension a.cell.order a.cell.rows a.factors.now a.slopes.now a.bends.now a.curvatures.now
-    _ _ c.pair_count-pairs.ensures c.power.ensures c.requires.1 l.curvatures _ l.q l.at _
+    pair_more a.grid.shape.dimension a.grid.shape.order a.grid.rows a.factors.now a.slopes.now a.bends.now a.curvatures.now
+    _ _ c.pair_count-pairs.ensures c.nodes.ensures c.requires.1 l.curvatures _ l.q l.at _
     c.pair_at-pair.ensures c.loop-q-test.true l.invariant c.fill_pair.ensures
 
 pub shape_of-curvatures : goal.shape_of-curvatures
@@ -103,5 +100,5 @@ pub returns : goal.returns
 returns c =
     let l = c.loop-q in
     let a = c.args in
-    pairs_done a.cell.dimension a.cell.order a.cell.rows a.factors.now a.slopes.now a.bends.now a.curvatures.now
-    _ _ c.pair_count-pairs.ensures c.power.ensures c.requires.1 _ l.q l.at l.invariant c.loop-q-test.false
+    pairs_done a.grid.shape.dimension a.grid.shape.order a.grid.rows a.factors.now a.slopes.now a.bends.now a.curvatures.now
+    _ _ c.pair_count-pairs.ensures c.nodes.ensures c.requires.1 _ l.q l.at l.invariant c.loop-q-test.false

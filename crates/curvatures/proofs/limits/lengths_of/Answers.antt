@@ -12,35 +12,35 @@ small : (a b m n : ℕ) → a ≤ m → b ≤ n → a * b ≤ m * n
 small a b m n h h' = mul-le-mul {n₁ = a} {m₁ = b} {n₂ = m} {m₂ = n} h h'
 
 module _ (c : After-pair_count-pairs) where
-  order_most : c.args.order ≤ 16
-  order_most = c.requires.0.order_most
+  order_most : c.args.grid.shape.order ≤ 16
+  order_most = c.args.grid.shape.taken.order_most
 
-  dimension_most : c.args.dimension ≤ 3
-  dimension_most = c.requires.0.dimension_most
+  dimension_most : c.args.grid.shape.dimension ≤ 3
+  dimension_most = c.args.grid.shape.taken.dimension_most
 
-  few : c.args.rows ≤ 4096
-  few = c.requires.1
+  few : c.args.grid.rows ≤ 4096
+  few = c.args.grid.few
 
-  columns : c.args.dimension * c.args.order ≤ 3 * 16
-  columns = small c.args.dimension c.args.order 3 16 dimension_most order_most
+  columns : c.args.grid.shape.dimension * c.args.grid.shape.order ≤ 3 * 16
+  columns = small c.args.grid.shape.dimension c.args.grid.shape.order 3 16 dimension_most order_most
 
-  nodes : c.pair_count-pairs.result * c.power-nodes.result ≤ 6 * 4096
+  nodes : c.pair_count-pairs.result * c.nodes-nodes.result ≤ 6 * 4096
   nodes =
-      small c.pair_count-pairs.result c.power-nodes.result 6 4096
-      (rw c.pair_count-pairs.ensures (count_most c.args.dimension dimension_most))
-      (rw c.power-nodes.ensures (power_most c.args.order c.args.dimension order_most dimension_most))
+      small c.pair_count-pairs.result c.nodes-nodes.result 6 4096
+      (rw c.pair_count-pairs.ensures (count_most c.args.grid.shape.dimension dimension_most))
+      (rw c.nodes-nodes.ensures (power_most c.args.grid.shape.order c.args.grid.shape.dimension order_most dimension_most))
 
 pub overflow_mul-columns : goal.overflow_mul-columns
 overflow_mul-columns c = omega (arith, columns (goal.at.overflow_mul-columns c).After-pair_count-pairs)
 
 pub overflow_mul-columns-2 : goal.overflow_mul-columns-2
-overflow_mul-columns-2 c = let a = c.args in omega (arith, small (a.dimension * a.order) a.rows 48 4096 (columns (goal.at.overflow_mul-columns-2 c).After-pair_count-pairs) (few (goal.at.overflow_mul-columns-2 c).After-pair_count-pairs))
+overflow_mul-columns-2 c = let a = c.args in omega (arith, small (a.grid.shape.dimension * a.grid.shape.order) a.grid.rows 48 4096 (columns (goal.at.overflow_mul-columns-2 c).After-pair_count-pairs) (few (goal.at.overflow_mul-columns-2 c).After-pair_count-pairs))
 
 pub overflow_mul-result : goal.overflow_mul-result
-overflow_mul-result c = let a = c.args in omega (arith, small a.dimension a.rows 3 4096 (dimension_most (goal.at.overflow_mul-result c).After-pair_count-pairs) (few (goal.at.overflow_mul-result c).After-pair_count-pairs))
+overflow_mul-result c = let a = c.args in omega (arith, small a.grid.shape.dimension a.grid.rows 3 4096 (dimension_most (goal.at.overflow_mul-result c).After-pair_count-pairs) (few (goal.at.overflow_mul-result c).After-pair_count-pairs))
 
 pub overflow_mul-result-2 : goal.overflow_mul-result-2
-overflow_mul-result-2 c = let a = c.args in omega (arith, small a.order a.order 16 16 (order_most (goal.at.overflow_mul-result-2 c).After-pair_count-pairs) (order_most (goal.at.overflow_mul-result-2 c).After-pair_count-pairs))
+overflow_mul-result-2 c = let a = c.args in omega (arith, small a.grid.shape.order a.grid.shape.order 16 16 (order_most (goal.at.overflow_mul-result-2 c).After-pair_count-pairs) (order_most (goal.at.overflow_mul-result-2 c).After-pair_count-pairs))
 
 pub overflow_mul-result-3 : goal.overflow_mul-result-3
 overflow_mul-result-3 c = omega (arith, nodes (goal.at.overflow_mul-result-3 c).After-pair_count-pairs)
@@ -48,7 +48,7 @@ overflow_mul-result-3 c = omega (arith, nodes (goal.at.overflow_mul-result-3 c).
 pub overflow_mul-result-4 : goal.overflow_mul-result-4
 overflow_mul-result-4 c = let a = c.args in omega (
   arith,
-  small (c.pair_count-pairs.result * c.power-nodes.result) a.rows 24576 4096
+  small (c.pair_count-pairs.result * c.nodes-nodes.result) a.grid.rows 24576 4096
       (nodes (goal.at.overflow_mul-result-4 c).After-pair_count-pairs) (few (goal.at.overflow_mul-result-4 c).After-pair_count-pairs),
 )
 
@@ -56,7 +56,7 @@ pub overflow_mul-result-5 : goal.overflow_mul-result-5
 overflow_mul-result-5 c = omega (arith, order_most (goal.at.overflow_mul-result-5 c).After-pair_count-pairs)
 
 pub overflow_mul-result-6 : goal.overflow_mul-result-6
-overflow_mul-result-6 c = let a = c.args in omega (arith, small (3 * a.order) a.rows 48 4096 (omega (arith, order_most (goal.at.overflow_mul-result-6 c).After-pair_count-pairs)) (few (goal.at.overflow_mul-result-6 c).After-pair_count-pairs))
+overflow_mul-result-6 c = let a = c.args in omega (arith, small (3 * a.grid.shape.order) a.grid.rows 48 4096 (omega (arith, order_most (goal.at.overflow_mul-result-6 c).After-pair_count-pairs)) (few (goal.at.overflow_mul-result-6 c).After-pair_count-pairs))
 
 pub returns : goal.returns
-returns c = rw (c.pair_count-pairs.ensures, c.power-nodes.ensures)
+returns c = rw (c.pair_count-pairs.ensures, c.nodes-nodes.ensures)

@@ -11,11 +11,11 @@ use Rattle.products.proofs.columns.fill_product.Goals as goal
 -- the three columns have their places
 rooms : (c : After-place_of-c) →
     let a = c.args in
-    (c.place_of-a.result + a.cell.rows ≤ length a.first.now) ×
-    (c.place_of-b.result + a.cell.rows ≤ length a.second.now)
-    × (c.place_of-c.result + a.cell.rows ≤ length a.third.now)
+    (c.place_of-a.result + a.grid.rows ≤ length a.first.now) ×
+    (c.place_of-b.result + a.grid.rows ≤ length a.second.now)
+    × (c.place_of-c.result + a.grid.rows ≤ length a.third.now)
 rooms c =
-    let room = source_room _ _ _ _ _ _ _ _ _ c.requires.0 c.args.node in (
+    let room = source_room _ _ _ _ _ _ _ _ _ c.args.grid.shape.taken.order_least c.requires.0 c.args.node in (
       rw c.place_of-a.ensures room.0,
       rw c.place_of-b.ensures room.1,
       rw c.place_of-c.ensures
@@ -23,18 +23,13 @@ rooms c =
     )
 
 pub place_of-a-requires : goal.place_of-a-requires
-place_of-a-requires c = (
-  c.requires.0.shape,
-  c.requires.0.few,
-  (source_axes _ _ _ _ _ _ _ _ _
-      c.requires.0).0,
-)
+place_of-a-requires c = (source_axes _ _ _ _ _ _ _ _ _ c.args.grid.shape.taken.order_least c.requires.0).0
 
 pub place_of-b-requires : goal.place_of-b-requires
-place_of-b-requires c = (c.requires.0.shape, c.requires.0.few, (source_axes _ _ _ _ _ _ _ _ _ c.requires.0).1)
+place_of-b-requires c = (source_axes _ _ _ _ _ _ _ _ _ c.args.grid.shape.taken.order_least c.requires.0).1
 
 pub place_of-c-requires : goal.place_of-c-requires
-place_of-c-requires c = (c.requires.0.shape, c.requires.0.few, (source_axes _ _ _ _ _ _ _ _ _ c.requires.0).2)
+place_of-c-requires c = (source_axes _ _ _ _ _ _ _ _ _ c.args.grid.shape.taken.order_least c.requires.0).2
 
 pub overflow_add-a_end : goal.overflow_add-a_end
 overflow_add-a_end c = omega (arith, rooms (goal.at.overflow_add-a_end c).After-place_of-c, c.well_formed)
@@ -45,29 +40,29 @@ overflow_add-b_end c = omega (arith, rooms (goal.at.overflow_add-b_end c).After-
 pub overflow_add-c_end : goal.overflow_add-c_end
 overflow_add-c_end c = omega (arith, rooms (goal.at.overflow_add-c_end c).After-place_of-c, c.well_formed)
 
-pub offset_bounds-first-a : goal.offset_bounds-first-a
-offset_bounds-first-a c = omega (arith, rooms (goal.at.offset_bounds-first-a c).After-place_of-c, c.well_formed)
-
 pub slice_bounds-multiply-end : goal.slice_bounds-multiply-end
 slice_bounds-multiply-end c = omega (arith, rooms (goal.at.slice_bounds-multiply-end c).After-place_of-c)
-
-pub offset_bounds-second-b : goal.offset_bounds-second-b
-offset_bounds-second-b c = omega (arith, rooms (goal.at.offset_bounds-second-b c).After-place_of-c, c.well_formed)
 
 pub slice_bounds-multiply-end-2 : goal.slice_bounds-multiply-end-2
 slice_bounds-multiply-end-2 c = omega (arith, rooms (goal.at.slice_bounds-multiply-end-2 c).After-place_of-c)
 
-pub offset_bounds-third-c : goal.offset_bounds-third-c
-offset_bounds-third-c c = omega (arith, rooms (goal.at.offset_bounds-third-c c).After-place_of-c, c.well_formed)
-
 pub slice_bounds-multiply-end-3 : goal.slice_bounds-multiply-end-3
 slice_bounds-multiply-end-3 c = omega (arith, rooms (goal.at.slice_bounds-multiply-end-3 c).After-place_of-c)
 
+pub offset_bounds-first-a : goal.offset_bounds-first-a
+offset_bounds-first-a c = omega (arith, rooms (goal.at.offset_bounds-first-a c).After-place_of-c, c.well_formed)
+
+pub offset_bounds-second-b : goal.offset_bounds-second-b
+offset_bounds-second-b c = omega (arith, rooms (goal.at.offset_bounds-second-b c).After-place_of-c, c.well_formed)
+
+pub offset_bounds-third-c : goal.offset_bounds-third-c
+offset_bounds-third-c c = omega (arith, rooms (goal.at.offset_bounds-third-c c).After-place_of-c, c.well_formed)
+
 pub multiply-requires : goal.multiply-requires
 multiply-requires c =
-    let P = c.args.cell.rows in (
-      c.requires.0.shape.dimension_least,
-      c.requires.0.shape.dimension_most,
+    let P = c.args.grid.rows in (
+      c.args.grid.shape.taken.dimension_least,
+      c.args.grid.shape.taken.dimension_most,
       part_length _ _ P _ refl (rooms (goal.at.multiply-requires c).After-place_of-c).0,
       part_length _ _ P _ refl (rooms (goal.at.multiply-requires c).After-place_of-c).1,
       part_length _ _ P _ refl (rooms (goal.at.multiply-requires c).After-place_of-c).2,
@@ -77,6 +72,6 @@ multiply-requires c =
 pub returns : goal.returns
 returns c =
     let a = c.args in
-    c.multiply.ensures ∙ product_lent a.cell.dimension a.cell.order a.cell.rows a.node _ _ _
+    c.multiply.ensures ∙ product_lent a.grid.shape.dimension a.grid.shape.order a.grid.rows a.node _ _ _
     a.first.now a.second.now a.third.now _ _ _
     c.place_of-a.ensures c.place_of-b.ensures c.place_of-c.ensures

@@ -1,7 +1,7 @@
 -- `products::columns::fill_products` meets its contract. The loop keeps `Stepping`: the columns of the nodes before `node` are
 -- filled. Assumes nothing.
 use mathlib.Core.List.{List}
-use Prim.Native.Nat.{ℕ, ◌-◌}
+use Prim.Native.Nat.{ℕ, ◌+◌, ◌*◌, ◌^◌}
 use lib.Ieee.{Float}
 use Rattle.common.specs.Matrices.{cell}
 use Rattle.common.proofs.Steps.{Stepping}
@@ -14,8 +14,8 @@ columns_of D p P f s t a b c = cell P (product_of D p P (three f s t) (three a b
 
 abbrev pub invariant-loop-node : goal.invariant-loop-node
 invariant-loop-node l =
-    Stepping 0 l.nodes l.cell.rows
-    (columns_of l.cell.dimension l.cell.order l.cell.rows l.axes.first l.axes.second l.axes.third l.first l.second l.third) l.initial.out l.out l.node l.at
-
-abbrev pub decreases-loop-node : goal.decreases-loop-node
-decreases-loop-node l = l.nodes - l.node
+    let D = l.grid.shape.dimension in
+    let p = l.grid.shape.order in
+    let P = l.grid.rows in
+    Stepping 0 (p ^ D) P (columns_of D p P l.axes.first l.axes.second l.axes.third l.first l.second l.third) l.initial.out l.out l.node
+    (0 + l.node * P)

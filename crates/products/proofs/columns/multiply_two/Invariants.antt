@@ -1,5 +1,4 @@
 -- `products::columns::multiply_two` meets its contract. The loop keeps `Filling`: i rows have their products. Assumes nothing.
-use Prim.Native.Nat.{◌-◌}
 use lib.Ieee.{nan}
 use lib.ListN.{get_or}
 use Rattle.common.specs.Floats.{times}
@@ -8,6 +7,3 @@ use Rattle.products.proofs.columns.multiply_two.Given as goal
 
 abbrev pub invariant-loop-i : goal.invariant-loop-i
 invariant-loop-i l = Filling 0 l.rows (λ j. times (get_or l.first j nan) (get_or l.second j nan)) l.initial.column l.column l.i
-
-abbrev pub decreases-loop-i : goal.decreases-loop-i
-decreases-loop-i l = l.rows - l.i

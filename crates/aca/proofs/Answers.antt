@@ -1,8 +1,9 @@
 -- What the call of cross approximation answers: a refusal, or the run that the lengths allow. Assumes nothing.
-use mathlib.Core.Path.{◌≡◌, refl, sym, ◌∙◌}
+use mathlib.Core.Path.{◌≡◌, refl, sym, ap}
+use mathlib.Core.Option.{Option, none}
 use mathlib.Core.Bool.{Bool, true, false, ◌&&◌, and-eq-true_iff}
 use mathlib.Core.List.{List}
-use Prim.Native.Nat.{ℕ, zero, suc, ◌*◌, ◌≤◌, min}
+use Prim.Native.Nat.{ℕ, zero, suc, ◌*◌, ◌<◌, ◌≤◌, min}
 use native.Mathlib.Nat.{min-le_left}
 use native.Mathlib.Omega.{arith}
 use lib.Dec.{leb}
@@ -16,11 +17,16 @@ use Rattle.common.proofs.Limits.{left_done, left_refused, passed}
 use Rattle.aca_pivots.specs.Flags.{all_on}
 use Rattle.aca_steps.specs.Memories.{Memory, laid, block_of}
 use Rattle.aca.specs.Runs.{run, listed, steps_of, begin, report, lengths, fits, aca_number, start, approximation, call, aca_call}
-use Rattle.aca.specs.Answers.{told}
+use Rattle.aca.specs.Reports.{told_report, told}
 use Rattle.aca_steps.proofs.Marked.{marks_none}
 use Rattle.aca.specs.Working.{Begun, ran, Ran}
-use Rattle.aca.specs.declared.Report.{Report}
-use Rattle.aca.specs.declared.Approximation.TheVariants.{Refused, Done}
+use Rattle.aca.specs.Reports.{Report}
+use Rattle.aca.specs.declared.Report.{Report as Made}
+use Rattle.common.specs.declared.refusals.Refusal.{Refusal}
+use Rattle.common.specs.Numbers.{number}
+use Rattle.common.proofs.Numbers.{number_above}
+use Rattle.std.specs.Prelude.{Result, Ok, Err}
+use Rattle.std.specs.Result.{IsErrAnd}
 
 -- what the number 0 says of the lengths
 record Fitting (restart : Bool) (m n : ℕ) (a : List Float) (t : Memory) : Type 0 where
@@ -62,21 +68,28 @@ few_listed : (restart : Bool) (m n : ℕ) → listed restart m n ≤ m
 few_listed false m n = min-le_left m n
 few_listed true m n = omega arith
 
-refused_told : (number : ℕ) (r : Report) → (number ≡ 0 → ⊥) → answer number r ≡ told (Refused number)
-refused_told zero r h = absurd (h refl)
+refused_told : (n : ℕ) (r : Report) → 0 < n → answer n r ≡ (n, none)
+refused_told zero r h = absurd (omega (arith, h))
 refused_told (suc n) r h = refl
 
-module _ (m n : ℕ) (a : List Float) (epsilon : Float) (restart : Bool) (t : Memory) (number : ℕ)
-    (e : number ≡ aca_number restart m n (lengths a t)) where
-  pub refused : (number ≡ 0 → ⊥) → call (told (Refused number)) t ≡ aca_call m n a epsilon restart t
-  unfolding aca_call
-  refused h =
-      let found = laid (approximation m n a epsilon restart t).found t in
-      rw (← e, left_refused number found t h, refused_told number (report (approximation m n a epsilon restart t)) h)
+-- what a `?` hands on
+handed : (r : Result Made Refusal) (e : Refusal) → IsErrAnd r (λ y. y ≡ e) → told r ≡ (number e, none)
+handed (Ok a) e h = absurd h
+handed (Err y) e h = ap (λ (n : ℕ). (n, none)) (ap number h)
 
-  module _ (z : number ≡ 0) where
+module _ (m n : ℕ) (a : List Float) (epsilon : Float) (restart : Bool) (t : Memory) where
+  pub refused : (r : Result Made Refusal) (e : Refusal) → IsErrAnd r (λ y. y ≡ e) → number e ≡ aca_number restart m n (lengths a t) →
+      call (told r) t ≡ aca_call m n a epsilon restart t
+  unfolding aca_call
+  refused r e h q =
+      let made = approximation m n a epsilon restart t in
+      let above = number_above e in
+      rw (handed r e h, ← q, left_refused (number e) (laid made.found t) t (λ z. omega (arith, above, z)))
+      (ap (λ (x : ℕ × Option Report). call x t) (sym (refused_told (number e) (report made) above)))
+
+  module _ (z : aca_number restart m n (lengths a t) ≡ 0) where
     f : Fitting restart m n a t
-    f = fitting restart m n a t (sym e ∙ z)
+    f = fitting restart m n a t z
 
     pub begun : (rows columns : List ℕ) → rows ≡ all_on → columns ≡ all_on → Begun (length a) t rows columns
     begun rows columns on on' =
@@ -95,11 +108,11 @@ module _ (m n : ℕ) (a : List Float) (epsilon : Float) (restart : Bool) (t : Me
           columns_marked = rw on' marks_none;
         }
 
-    pub finished : (r : Report) (t' : Memory) → Ran (ran a (times epsilon epsilon) restart t) t r t' →
-        call (told (Done r)) t' ≡ aca_call m n a epsilon restart t
+    pub finished : (r : Made) (t' : Memory) → Ran (ran a (times epsilon epsilon) restart t) t (told_report r) t' →
+        call (told (Ok r)) t' ≡ aca_call m n a epsilon restart t
     unfolding aca_call approximation
     finished r t' h =
         let e' = run (steps_of (listed restart m n) (min m n)) restart (block_of m n a) (times epsilon epsilon) begin (start t) in
         let same : ran a (times epsilon epsilon) restart t ≡ e' = rw (f.rows_long, f.columns_long, f.column_long, f.row_long) in
-        let whole : Ran e' t r t' = rw same at h in
-        rw (← e, z, left_done 0 (laid e'.found t) t refl, whole.report_is, whole.memory_is)
+        let whole : Ran e' t (told_report r) t' = rw same at h in
+        rw (z, left_done 0 (laid e'.found t) t refl, whole.report_is, whole.memory_is)

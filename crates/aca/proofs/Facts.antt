@@ -9,11 +9,11 @@ use native.Mathlib.Omega.{arith}
 use lib.Ieee.{Float}
 use Rattle.common.specs.Floats.{times}
 use Rattle.common.proofs.Cases.{by_eq, not_both}
-use Rattle.aca_progress.specs.Crosses.{Block, most, Found, used_up, grown, weighed, stored, step}
+use Rattle.aca_progress.specs.Crosses.{Block, most, Found, grown, weighed, stored, step}
+use Rattle.aca_progress.specs.Steps.{used_up}
 use Rattle.aca_steps.specs.Memories.{Memory, laid, block_of}
 use Rattle.aca_progress.specs.declared.Progress.{Progress}
-use Rattle.aca_progress.specs.declared.Step.{Step}
-use Rattle.aca_progress.specs.declared.Step.TheVariants.{More, Stop}
+use Rattle.aca_progress.specs.Steps.{Step, More, Stop}
 use Rattle.aca_progress.proofs.Ways.{across, down, term, Ways, by_way, Counts, counts_across, counts_term}
 use Rattle.aca.specs.Runs.{Finish, finish, followed, run, listed, begin, start, approximation}
 use Rattle.aca.specs.Facts.{Facts, OldFacts, RunFacts, OldRunFacts, NothingRead}

@@ -10,14 +10,14 @@ use lib.ListN.{length, take}
 use lib.Seq.{length-take-le}
 use Rattle.common.proofs.Cases.{by_eq}
 use Rattle.common.proofs.Matrices.{column_fits}
-use Rattle.aca_progress.specs.Crosses.{used_up, Block, Found, Outcome, step}
+use Rattle.aca_progress.specs.Crosses.{Block, Found, Outcome, step}
+use Rattle.aca_progress.specs.Steps.{used_up}
 use Rattle.aca_steps.specs.Memories.{Memory, laid, block_of}
 use Rattle.aca_progress.specs.Working.{RowsKnown}
 use Rattle.aca_steps.specs.Standing.{standing, Marks, Ready, made, Stepped}
 use Rattle.aca_progress.specs.declared.Progress.{Progress}
 use Rattle.aca_progress.specs.declared.Reading.{Reading}
-use Rattle.aca_progress.specs.declared.Step.{Step}
-use Rattle.aca_progress.specs.declared.Step.TheVariants.{More, Stop}
+use Rattle.aca_progress.specs.Steps.{Step, More, Stop}
 use Rattle.aca_steps.proofs.Fronts.{upon_upon, take_upon}
 use Rattle.aca_progress.proofs.Ways.{Counts, Took, step_took}
 use Rattle.aca.specs.Runs.{Finish, finish, followed, run, steps_of, begin, reported, report, start}

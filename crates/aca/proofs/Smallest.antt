@@ -17,8 +17,7 @@ use Rattle.aca_pivots.proofs.Facts.{argmax_facts}
 use Rattle.aca_progress.specs.Crosses.{Block, Found, unread, tiny₆₄, lesser, grown, weighed, step}
 use Rattle.aca_steps.specs.Memories.{Memory, block_of}
 use Rattle.aca_progress.specs.declared.Progress.{Progress}
-use Rattle.aca_progress.specs.declared.Step.{Step}
-use Rattle.aca_progress.specs.declared.Step.TheVariants.{More, Stop}
+use Rattle.aca_progress.specs.Steps.{Step, More, Stop}
 use Rattle.aca_progress.proofs.Chosen.{tiny_above}
 use Rattle.aca_progress.proofs.Sizes.{below_number, size_number, usable_large}
 use Rattle.aca_progress.proofs.Ways.{across, across_long, chosen, has, term, by_way, state_of}

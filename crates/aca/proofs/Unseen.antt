@@ -19,8 +19,7 @@ use Rattle.aca_progress.specs.Crosses.{Block, Found, found, unread, row_read, co
 use Rattle.aca_progress.specs.Crosses.{Outcome}
 use Rattle.aca_steps.specs.Memories.{Memory, block_of}
 use Rattle.aca_progress.specs.declared.Progress.{Progress}
-use Rattle.aca_progress.specs.declared.Step.{Step}
-use Rattle.aca_progress.specs.declared.Step.TheVariants.{More, Stop}
+use Rattle.aca_progress.specs.Steps.{Step, More, Stop}
 use Rattle.aca_steps.proofs.Marked.{unread_last}
 use Rattle.aca_progress.proofs.Ways.{across, chosen, has}
 use Rattle.aca.specs.Runs.{followed, run, begin, start, listed, steps_of, approximation, aca_call}

@@ -6,12 +6,12 @@ use Rattle.common.specs.Floats.{times}
 use Rattle.aca_pivots.specs.Largest.{pivot}
 use Rattle.aca_lines.specs.Lines.{norm}
 use Rattle.aca_pivots.specs.declared.Pivot.{Pivot}
-use Rattle.aca_progress.specs.Crosses.{Block, Found, unread, row_read, column_read, weighed, stored, tolerable, spent, used_up, tiny₆₄}
+use Rattle.aca_progress.specs.Crosses.{Block, Found, unread, row_read, column_read, weighed, stored, tiny₆₄}
+use Rattle.aca_progress.specs.Steps.{tolerable, spent, used_up}
 use Rattle.aca_progress.specs.Crosses.{Outcome, outcome}
 use Rattle.aca_steps.specs.Memories.{Memory, block_of}
 use Rattle.aca_progress.specs.declared.Progress.{Progress}
-use Rattle.aca_progress.specs.declared.Step.{Step}
-use Rattle.aca_progress.specs.declared.Step.TheVariants.{More, Stop}
+use Rattle.aca_progress.specs.Steps.{Step, More, Stop}
 use Rattle.aca.specs.Runs.{Finish, finish, followed, begin, start}
 
 -- a term whose norm is small against the estimate is the last

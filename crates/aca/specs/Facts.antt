@@ -5,7 +5,8 @@ use Rattle.std.specs.Float.{nan}
 use Rattle.std.specs.Float.Ieee.{lt, le, is_nan}
 use Rattle.common.specs.Floats.{zero₆₄}
 use Rattle.aca_pivots.specs.Facts.{size_at}
-use Rattle.aca_progress.specs.Crosses.{Found, unread, tiny₆₄, tolerable, spent, used_up, all_tried}
+use Rattle.aca_progress.specs.Crosses.{Found, unread, tiny₆₄}
+use Rattle.aca_progress.specs.Steps.{tolerable, spent, used_up, all_tried}
 use Rattle.aca_steps.specs.Memories.{Memory, laid}
 use Rattle.aca_progress.specs.declared.Progress.{Progress}
 use Rattle.aca.specs.Runs.{Finish, finish, begin, start, listed, report, approximation}

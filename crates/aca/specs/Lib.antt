@@ -1,4 +1,4 @@
-pub mod Answers
+pub mod Reports
 pub mod Runs
 pub mod Before
 pub mod Pivots

@@ -7,8 +7,7 @@ use Rattle.aca_pivots.specs.Largest.{pivot}
 use Rattle.aca_progress.specs.Crosses.{Block, Found, unread, row_read, usable, step}
 use Rattle.aca_steps.specs.Memories.{Memory, block_of}
 use Rattle.aca_progress.specs.declared.Progress.{Progress}
-use Rattle.aca_progress.specs.declared.Step.{Step}
-use Rattle.aca_progress.specs.declared.Step.TheVariants.{More, Stop}
+use Rattle.aca_progress.specs.Steps.{Step, More, Stop}
 use Rattle.aca.specs.Runs.{listed, steps_of, begin, start}
 
 -- the pivot of the row that was read last, where it has a usable one

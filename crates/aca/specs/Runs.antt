@@ -3,13 +3,13 @@ use Rattle.std.specs.Prelude.{ℕ, zero, suc, ◌*◌, min, Bool, cond, ◌&&◌
 use Rattle.std.proofs.Math.Option.{Option}
 use Rattle.common.specs.Floats.{times, zero₆₄}
 use Rattle.common.specs.Refusals.{no_count, wrong_length, unless, left, most_entries, answer}
-use Rattle.aca_progress.specs.Crosses.{Block, Found, found, used_up, step}
+use Rattle.aca_progress.specs.Crosses.{Block, Found, found, step}
+use Rattle.aca_progress.specs.Steps.{used_up}
 use Rattle.aca_steps.specs.Memories.{Memory, laid, block_of}
 use Rattle.aca_progress.specs.declared.Progress.{Progress}
-use Rattle.aca_progress.specs.declared.Step.{Step}
-use Rattle.aca_progress.specs.declared.Step.TheVariants.{More, Stop}
+use Rattle.aca_progress.specs.Steps.{Step, More, Stop}
 use Rattle.aca.specs.declared.Lengths.{Lengths}
-use Rattle.aca.specs.declared.Report.{Report}
+use Rattle.aca.specs.Reports.{Report}
 
 -- THE RUN
 

@@ -1,12 +1,13 @@
 -- Request E9: a run reads nothing outside the rows and the columns that it lists. Two blocks of m by n, with the samples a and b, that
 -- agree there give one run, in either mode; elsewhere their entries may be anything. proofs/Unseen.antt proves it.
-use Rattle.std.specs.Prelude.{ℕ, ◌<◌, ◌≡◌, Bool, true, List, Float, length, get_or}
+use Rattle.std.specs.Prelude.{ℕ, ◌<◌, ◌≡◌, Bool, true, List, Float, length, get_or, Result}
 use Rattle.common.specs.Matrices.{matrix}
 use Rattle.aca_progress.specs.Crosses.{Found}
 use Rattle.aca_steps.specs.Memories.{Memory}
-use Rattle.aca.specs.Answers.{told}
+use Rattle.aca.specs.Reports.{told}
 use Rattle.aca.specs.Runs.{approximation, call, aca_call}
-use Rattle.aca.specs.declared.Approximation.{Approximation}
+use Rattle.common.specs.declared.refusals.Refusal.{Refusal}
+use Rattle.aca.specs.declared.Report.{Report}
 
 module _ (m n : ℕ) (a b : List Float) where
   -- one entry of the blocks is the same value of the format; row i; and column j
@@ -32,7 +33,7 @@ module _ (m n : ℕ) (a b : List Float) where
       -- where as many samples are lent, one call: the number, the report, and all lent memory
       pub same_call : length a ≡ length b → aca_call m n a epsilon restart t ≡ aca_call m n b epsilon restart t
       -- and what two programs that meet the contract answer and leave is the same
-      pub same_answer : length a ≡ length b → (r r' : Approximation) (after after' : Memory) →
+      pub same_answer : length a ≡ length b → (r r' : Result Report Refusal) (after after' : Memory) →
           call (told r) after ≡ aca_call m n a epsilon restart t → call (told r') after' ≡ aca_call m n b epsilon restart t →
           (r ≡ r') × (after ≡ after')
 

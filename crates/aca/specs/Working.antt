@@ -3,7 +3,7 @@ use Rattle.std.specs.Prelude.{ℕ, ◌≤◌, ◌≡◌, Bool, List, [], Float, 
 use Rattle.aca_steps.specs.Memories.{Memory, laid, block_of}
 use Rattle.aca_steps.specs.Standing.{Marks, Sizes}
 use Rattle.aca.specs.Runs.{Finish, run, steps_of, begin, report, start}
-use Rattle.aca.specs.declared.Report.{Report}
+use Rattle.aca.specs.Reports.{Report}
 
 -- a run that begins: its row list has no more places than the block has rows, and nothing is read
 pub record Begun (samples : ℕ) (t : Memory) (rows columns : List ℕ) : Type 0 where

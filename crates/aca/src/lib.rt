@@ -4,27 +4,21 @@
 mod limits;
 mod run;
 
+use aca_progress::Stop;
 pub use run::aca_partial_pivoting;
 
 // What the caller is told of a run; `smallest` is the smallest size among the pivots that were accepted, or +0.0.
-#[derive(Drop)]
+#[derive(Clone, Copy)]
 pub struct Report {
     pub rank: usize,
     pub estimate: f64,
     pub smallest: f64,
-    pub stop: u8,
+    pub stop: Stop,
     pub rows_read: usize,
 }
 
-// The report of a run, or the number of a refusal.
-#[derive(Drop)]
-pub enum Approximation {
-    Refused(u8),
-    Done(Report),
-}
-
 // The lengths of the samples and of the lent buffers.
-#[derive(Drop)]
+#[derive(Clone, Copy, PartialEq, Eq)]
 pub struct Lengths {
     pub samples: usize,
     pub u: usize,

@@ -2,18 +2,21 @@
 ghost use Rattle.std.specs.Prelude.{◌≡◌, length};
 ghost use Rattle.aca_steps.specs.Memories.{behind};
 ghost use Rattle.aca_progress.specs.Working.{RowsKnown};
-ghost use Rattle.aca.specs.Answers.{told};
+ghost use Rattle.aca_progress.specs.Steps.{stop_number};
+ghost use Rattle.aca.specs.Reports.{told_report, told};
 ghost use Rattle.aca.specs.Runs.{reported, steps_of, call, aca_call};
 ghost use Rattle.aca.specs.Working.{Begun, ran, Ran};
 
-use crate::limits::aca_number;
-use crate::{Approximation, Lengths, Report};
-use aca_pivots::{Flags, all_on, lowest_on};
-use aca_progress::{Progress, Reading, Step, USED_UP};
+use crate::limits::check_aca;
+use crate::{Lengths, Report};
+use aca_pivots::Flags;
+use aca_progress::{Progress, Reading, Stop};
 use aca_steps::advance;
+use common::Refusal;
+use std::ops::ControlFlow;
 
-fn report(stop: u8, s: Progress, rows_read: usize) -> Report
-    ensures { result ≡ reported stop s rows_read }
+fn report(stop: Stop, s: Progress, rows_read: usize) -> Report
+    ensures { told_report result ≡ reported (stop_number stop) s rows_read }
 {
     Report {
         rank: s.rank,
@@ -36,16 +39,16 @@ fn steps_of(places: usize, terms: usize) -> usize
 
 // The row below which all are read: asked on from where it was, so that no row is passed twice in a run.
 fn risen(restart: bool, low: usize, rows: usize, row_flags: &Flags) -> usize
-    requires { RowsKnown low rows row_flags.now }
-    ensures { RowsKnown result rows row_flags.now }
+    requires { RowsKnown low rows row_flags.now.words }
+    ensures { RowsKnown result rows row_flags.now.words }
 {
     if restart {
-        return lowest_on(row_flags, low, rows);
+        return row_flags.lowest_on(low, rows);
     }
     low
 }
 
-// At most as many steps as the row list has places. `read` counts the rows read.
+// At most as many steps as the row list has places: a row is read a step.
 fn run(
     samples: &[f64],
     tolerance: f64,
@@ -59,11 +62,12 @@ fn run(
     row: &mut [f64],
     column: &mut [f64],
 ) -> Report
-    requires { Begun (length samples.now) (behind u.old v.old row_list.old column_list.old row.old column.old) row_flags.old column_flags.old }
+    requires { Begun (length samples.now) (behind u.old v.old row_list.old column_list.old row.old column.old)
+        row_flags.old.words column_flags.old.words }
     ensures { Ran (ran samples.now tolerance «restart»
         (behind u.old v.old row_list.old column_list.old row.old column.old))
         (behind u.old v.old row_list.old column_list.old row.old column.old)
-        result (behind u.new v.new row_list.new column_list.new row.new column.new) }
+        (told_report result) (behind u.new v.new row_list.new column_list.new row.new column.new) }
 {
     let rows = column.len();
     let most = steps_of(row_list.len(), column_list.len());
@@ -74,9 +78,8 @@ fn run(
         rank: 0,
         next: 0,
     };
-    let mut read = 0;
     let mut low = 0;
-    while read < most {
+    for read in 0..most {
         let made = advance(
             samples,
             tolerance,
@@ -92,17 +95,12 @@ fn run(
             column,
         );
         match made {
-            Step::More(after) => {
-                s = after;
-            }
-            Step::Stop(why, after) => {
-                return report(why, after, read + 1);
-            }
+            ControlFlow::Continue(after) => s = after,
+            ControlFlow::Break((why, after)) => return report(why, after, read + 1),
         }
         low = risen(restart, low, rows, row_flags);
-        read += 1;
     }
-    report(USED_UP, s, read)
+    report(Stop::UsedUp, s, most)
 }
 
 // Terms whose sum, U by V, approximates the block until the run's own test stops it; and the rows and columns that were read for it.
@@ -119,7 +117,7 @@ pub fn aca_partial_pivoting(
     column_list: &mut [u16],
     row: &mut [f64],
     column: &mut [f64],
-) -> Approximation
+) -> Result<Report, Refusal>
     ensures { call (told result) (behind u.new v.new row_list.new column_list.new row.new column.new)
         ≡ aca_call rows columns samples.now epsilon «restart»
         (behind u.old v.old row_list.old column_list.old row.old column.old) }
@@ -133,13 +131,10 @@ pub fn aca_partial_pivoting(
         row: row.len(),
         column: column.len(),
     };
-    let number = aca_number(restart, rows, columns, lent);
-    if number != 0 {
-        return Approximation::Refused(number);
-    }
-    let mut row_flags = all_on();
-    let mut column_flags = all_on();
-    Approximation::Done(run(
+    check_aca(restart, rows, columns, lent)?;
+    let mut row_flags = Flags::all_on();
+    let mut column_flags = Flags::all_on();
+    Ok(run(
         samples,
         epsilon * epsilon,
         restart,

@@ -34,7 +34,8 @@ part_in n at e a end fits s b = rw (one-mul s, zero-add s, part_length at e n a 
 
 -- a line of the block from which the terms' sums, which stood in a list, were subtracted
 pub residual_is : (n k : ℕ) (line : ℕ → Float) (terms : ℕ → ℕ → Float) (factors : ℕ → Float) (summed after : List Float) →
-    summed ≡ tabulate n (λ c. sums k (λ l. times (terms c l) (factors l))) → after ≡ tabulate n (λ c. minus (line c) (get_or summed c nan)) →
+    summed ≡ tabulate n (λ c. sums k (λ l. times (terms c l) (factors l))) →
+    after ≡ tabulate n (λ c. minus (line c) (get_or summed c nan)) →
     after ≡ residual n k line terms factors
 unfolding residual
 residual_is n k line terms factors summed after e h =

@@ -1,5 +1,5 @@
 // The block that is approximated: its entries, and its rows and columns less what earlier terms say of them.
-ghost use Rattle.std.specs.Prelude.{◌≡◌, ◌+◌, ◌*◌, ◌<◌, ◌≤◌, length};
+ghost use Rattle.std.specs.Prelude.{◌≡◌, ℕ, ◌+◌, ◌*◌, ◌<◌, ◌≤◌, length};
 ghost use Rattle.common.specs.Matrices.{matrix};
 ghost use Rattle.aca_lines.specs.Lines.{row_less, column_less};
 ghost use Rattle.aca_lines.specs.Working.{less_these};
@@ -7,30 +7,14 @@ ghost use Rattle.aca_lines.specs.Working.{less_these};
 use crate::reader::sample;
 use crate::terms::sum_terms;
 
-// Each entry of row i of the block, less what stands in its place.
-fn subtract_from_row(samples: &[f64], rows: usize, i: usize, row: &mut [f64])
-    requires { (i < rows) × (length row.old * rows ≤ length samples.now) }
-    ensures { row.new ≡ less_these (matrix rows samples.now i) row.old }
+// Each entry of a line of the block, less what stands in its place. A line's entries stand so far apart, from the first on: a row's
+// by a column's length, and a column's by 1, as if each column had a row alone.
+fn subtract_from(samples: &[f64], apart: usize, first: usize, line: &mut [f64])
+    requires { (c : ℕ) → c < length line.old → c * apart + first < length samples.now }
+    ensures { line.new ≡ less_these (matrix apart samples.now first) line.old }
 {
-    let n = row.len();
-    let mut c = 0;
-    while c < n {
-        row[c] = sample(samples, rows, i, c) - row[c];
-        c += 1;
-    }
-}
-
-// Each entry of column j of the block, less what stands in its place.
-fn subtract_from_column(samples: &[f64], j: usize, column: &mut [f64])
-    requires { j * length column.old + length column.old ≤ length samples.now }
-    ensures { column.new
-        ≡ less_these (λ i. matrix (length column.old) samples.now i j) column.old }
-{
-    let m = column.len();
-    let mut i = 0;
-    while i < m {
-        column[i] = sample(samples, m, i, j) - column[i];
-        i += 1;
+    for c in 0..line.len() {
+        line[c] = sample(samples, apart, first, c) - line[c];
     }
 }
 
@@ -50,7 +34,7 @@ pub fn read_row(
         ≡ row_less rows (length row.old) samples.now u.now v.now k i }
 {
     sum_terms(k, v, u, i, rows, row);
-    subtract_from_row(samples, rows, i, row);
+    subtract_from(samples, rows, i, row);
 }
 
 // Column j of the block, of so many columns, less the first k terms.
@@ -69,5 +53,5 @@ pub fn read_column(
         ≡ column_less (length column.old) columns samples.now u.now v.now k j }
 {
     sum_terms(k, u, v, j, columns, column);
-    subtract_from_column(samples, j, column);
+    subtract_from(samples, 1, j * column.len(), column);
 }

@@ -19,21 +19,16 @@ pub(crate) fn sum_terms(
 {
     let n = line.len();
     common::fill_with(0.0, n, 0, line);
-    let mut l = 0;
-    while l < k {
+    for l in 0..k {
         common::add_scaled(n, terms, l * n, factors[l * stride + at], 0, line);
-        l += 1;
     }
 }
 
 pub fn multiply(factor: f64, line: &mut [f64])
     ensures { line.new ≡ multiplied factor line.old }
 {
-    let n = line.len();
-    let mut c = 0;
-    while c < n {
-        line[c] = line[c] * factor;
-        c += 1;
+    for x in line.iter_mut() {
+        *x = *x * factor;
     }
 }
 
@@ -64,12 +59,10 @@ pub fn cross(k: usize, u: &[f64], v: &[f64], column: &[f64], row: &[f64]) -> f64
     let m = column.len();
     let n = row.len();
     let mut sum = 0.0;
-    let mut l = 0;
-    while l < k {
+    for l in 0..k {
         let a = dot_with(u, l * m, column);
         let b = dot_with(v, l * n, row);
         sum = sum + a * b;
-        l += 1;
     }
     sum
 }

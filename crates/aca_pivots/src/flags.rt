@@ -14,58 +14,64 @@ const WORDS: usize = 16;
 
 const WORD_BITS: usize = 64;
 
-const ALL_BITS: u64 = 18446744073709551615;
-
-pub type Flags = [u64; WORDS];
-
-pub fn all_on() -> Flags
-    ensures { result ≡ all_on }
-{
-    [ALL_BITS; WORDS]
+// A flag for each row or column that a block may have.
+#[derive(Drop)]
+pub struct Flags {
+    pub words: [u64; WORDS],
 }
 
-pub fn is_on(flags: &Flags, k: usize) -> bool
-    requires { k < most_entries }
-    ensures { result ≡ is_on flags.now k }
-{
-    let at = k / WORD_BITS;
-    (flags[at] >> (k % WORD_BITS)) & 1 == 1
-}
-
-pub fn clear(flags: &mut Flags, k: usize)
-    requires { k < most_entries }
-    ensures { flags.new ≡ cleared flags.old k }
-{
-    let at = k / WORD_BITS;
-    let place = k % WORD_BITS;
-    flags[at] = flags[at] & (ALL_BITS - (1 << place));
-}
-
-// Where to look after place k, whose flag is off: at the next place or, where no later flag of the word is on, at the next word.
-fn next_place(flags: &Flags, k: usize) -> usize
-    requires { k < most_entries }
-    ensures { result ≡ next_place flags.now k }
-{
-    let at = k / WORD_BITS;
-    if flags[at] >> (k % WORD_BITS) == 0 {
-        return at * WORD_BITS + WORD_BITS;
-    }
-    k + 1
-}
-
-// The lowest place below `most` whose flag is on, or `most` where there is none. Those below `from` are known to be off.
-pub fn lowest_on(flags: &Flags, from: usize, most: usize) -> usize
-    requires { (from ≤ most) × (most ≤ most_entries) × ((k : ℕ) → k < from → is_on flags.now k ≡ false) }
-    ensures { result ≡ lowest most (is_on flags.now) }
-{
-    let mut k = from;
-    while k < most {
-        if is_on(flags, k) {
-            return k;
+impl Flags {
+    pub fn all_on() -> Self
+        ensures { result.words ≡ all_on }
+    {
+        Flags {
+            words: [u64::MAX; WORDS],
         }
-        k = next_place(flags, k);
     }
-    most
+
+    pub fn is_on(&self, k: usize) -> bool
+        requires { k < most_entries }
+        ensures { result ≡ is_on self.now.words k }
+    {
+        let at = k / WORD_BITS;
+        (self.words[at] >> (k % WORD_BITS)) & 1 == 1
+    }
+
+    pub fn clear(&mut self, k: usize)
+        requires { k < most_entries }
+        ensures { self.new.words ≡ cleared self.old.words k }
+    {
+        let at = k / WORD_BITS;
+        let place = k % WORD_BITS;
+        self.words[at] &= u64::MAX - (1 << place);
+    }
+
+    // Where to look after place k, whose flag is off: at the next place or, where no later flag of the word is on, at the next word.
+    fn next_place(&self, k: usize) -> usize
+        requires { k < most_entries }
+        ensures { result ≡ next_place self.now.words k }
+    {
+        let at = k / WORD_BITS;
+        if self.words[at] >> (k % WORD_BITS) == 0 {
+            return at * WORD_BITS + WORD_BITS;
+        }
+        k + 1
+    }
+
+    // The lowest place below `most` whose flag is on, or `most` where there is none. Those below `from` are known to be off.
+    pub fn lowest_on(&self, from: usize, most: usize) -> usize
+        requires { (from ≤ most) × (most ≤ most_entries) × ((k : ℕ) → k < from → is_on self.now.words k ≡ false) }
+        ensures { result ≡ lowest most (is_on self.now.words) }
+    {
+        let mut k = from;
+        while k < most {
+            if self.is_on(k) {
+                return k;
+            }
+            k = self.next_place(k);
+        }
+        most
+    }
 }
 
 // The best of the first k + 1 entries, given that of the first k; entry k counts where its bit of the word is 1.
@@ -74,10 +80,7 @@ fn better_in(entries: &[f64], word: u64, k: usize, held: Best) -> Best
     ensures { Extended entries.now word k (k + 1) held result }
 {
     let s = common::size_of(entries[k]);
-    if !(held.worth < s) {
-        return held;
-    }
-    if (word >> (k % WORD_BITS)) & 1 != 1 {
+    if !(held.worth < s) || (word >> (k % WORD_BITS)) & 1 != 1 {
         return held;
     }
     Best { place: k, worth: s }
@@ -100,10 +103,8 @@ fn best_of_few(entries: &[f64], word: u64, from: usize, end: usize, held: Best) 
     ensures { Extended entries.now word from end held result }
 {
     let mut largest = held;
-    let mut k = from;
-    while k < end {
+    for k in from..end {
         largest = better_in(entries, word, k, largest);
-        k += 1;
     }
     largest
 }
@@ -129,7 +130,7 @@ fn best_in(entries: &[f64], word: u64, from: usize, end: usize, held: Best) -> B
 // The place of the largest entry whose flag is on: a word of flags at a time.
 pub fn place_on(entries: &[f64], flags: &Flags) -> usize
     requires { length entries.now ≤ most_entries }
-    ensures { result ≡ argmax entries.now (is_on flags.now) }
+    ensures { result ≡ argmax entries.now (is_on flags.now.words) }
 {
     let n = entries.len();
     let mut largest = Best {
@@ -139,8 +140,8 @@ pub fn place_on(entries: &[f64], flags: &Flags) -> usize
     let mut from = 0;
     while from < n {
         let at = from / WORD_BITS;
-        let end = common::least(from + WORD_BITS, n);
-        largest = best_in(entries, flags[at], from, end, largest);
+        let end = (from + WORD_BITS).min(n);
+        largest = best_in(entries, flags.words[at], from, end, largest);
         from = end;
     }
     largest.place
@@ -149,7 +150,7 @@ pub fn place_on(entries: &[f64], flags: &Flags) -> usize
 // The pivot of a line among the entries whose flags are on.
 pub fn pick_on(entries: &[f64], flags: &Flags) -> Pivot
     requires { length entries.now ≤ most_entries }
-    ensures { result ≡ pivot entries.now (is_on flags.now) }
+    ensures { result ≡ pivot entries.now (is_on flags.now.words) }
 {
     pivot_at(entries, place_on(entries, flags))
 }

@@ -4,7 +4,7 @@
 mod flags;
 mod search;
 
-pub use flags::{Flags, all_on, clear, is_on, lowest_on, pick_on, place_on};
+pub use flags::{Flags, pick_on, place_on};
 pub use search::pick;
 
 // The pivot of a line: its place, and the size of the entry there.

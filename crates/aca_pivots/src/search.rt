@@ -33,32 +33,21 @@ fn better(entries: &[f64], mask: &[u8], k: usize, held: Best) -> Best
     ensures { result ≡ best (k + 1) entries.now (counts mask.now) }
 {
     let s = common::size_of(entries[k]);
-    if !(held.worth < s) {
-        return held;
-    }
-    if mask[k] != 1 {
+    if !(held.worth < s) || mask[k] != 1 {
         return held;
     }
     Best { place: k, worth: s }
 }
 
-// Two entries a turn: half the turns are half the counting.
 pub fn pick(entries: &[f64], mask: &[u8]) -> Pivot
     requires { length entries.now ≤ length mask.now }
     ensures { result ≡ pivot entries.now (counts mask.now) }
 {
-    let n = entries.len();
     let mut largest = Best {
         place: 0,
         worth: 0.0,
     };
-    let mut k = 0;
-    while k + 1 < n {
-        largest = better(entries, mask, k, largest);
-        largest = better(entries, mask, k + 1, largest);
-        k += 2;
-    }
-    if k < n {
+    for k in 0..entries.len() {
         largest = better(entries, mask, k, largest);
     }
     pivot_at(entries, largest.place)

@@ -1,11 +1,10 @@
 -- The size of a pivot that is accepted: it is a NaN, or at least 2 ^ -52; and what a NaN is to the comparisons. Assumes nothing.
 use mathlib.Core.Path.{◌≡◌, refl, sym, ◌∙◌}
-use mathlib.Core.Bool.{Bool, true, false, not, and-eq-true_iff}
+use mathlib.Core.Bool.{Bool, true, false, and-eq-true_iff}
 use mathlib.Core.List.{List}
-use Prim.Native.Nat.{ℕ, ◌*◌, ◌<◌}
-use borrow.Author.Tests.{eq-eqb}
+use Prim.Native.Nat.{ℕ, ◌<◌}
 use lib.Count.{count_trailing_zeros}
-use lib.Ieee.{Float, nan, inf, fin, up, down, lt, le, eq, is_nan, neg, of_bits, of_fields, odd}
+use lib.Ieee.{Float, nan, inf, fin, lt, le, eq, is_nan, neg, of_bits, of_fields, odd}
 use lib.ListN.{length}
 use Rattle.common.specs.Floats.{zero₆₄, size}
 use Rattle.common.proofs.Cases.{by_bool, not_both, of_not}
@@ -15,15 +14,6 @@ use Rattle.aca_pivots.specs.declared.Pivot.{Pivot}
 use Rattle.aca_progress.specs.Crosses.{tiny₆₄, usable}
 use Rattle.aca_progress.specs.Working.{usable_here}
 use Rattle.aca_progress.proofs.Chosen.{usable_here_lem}
-
--- A NaN alone differs from itself
-pub equals_itself : (x : Float) → eq x x ≡ not (is_nan x)
-unfolding eq is_nan
-equals_itself nan = refl
-equals_itself (inf true) = refl
-equals_itself (inf false) = refl
-equals_itself (fin true m e) = rw (eq-eqb (m * up e * down e) (m * up e * down e) refl)
-equals_itself (fin false m e) = rw (eq-eqb (m * up e * down e) (m * up e * down e) refl)
 
 -- what is below something is a number
 pub below_number : (x y : Float) → lt x y ≡ true → is_nan x ≡ false

@@ -15,12 +15,10 @@ use Rattle.aca_pivots.specs.Largest.{pivot}
 use Rattle.aca_lines.specs.Lines.{residual, multiplied, norm}
 use Rattle.aca_pivots.specs.declared.Pivot.{Pivot}
 use Rattle.aca_pivots.proofs.Largest.{argmax_in}
-use Rattle.aca_progress.specs.Crosses.{Block, most, Found, unread, row_read, column_read, noted, grown, weighed, stored, tolerable}
-use Rattle.aca_progress.specs.Crosses.{spent}
-use Rattle.aca_progress.specs.Crosses.{used_up, all_tried, moved, elsewhere, onward, without, usable, judged, accepted, tried, step}
+use Rattle.aca_progress.specs.Crosses.{Block, most, Found, unread, row_read, column_read, noted, grown, weighed, stored}
+use Rattle.aca_progress.specs.Crosses.{moved, elsewhere, onward, without, usable, judged, accepted, tried, step}
 use Rattle.aca_progress.specs.declared.Progress.{Progress}
-use Rattle.aca_progress.specs.declared.Step.{Step}
-use Rattle.aca_progress.specs.declared.Step.TheVariants.{More, Stop}
+use Rattle.aca_progress.specs.Steps.{Step, More, Stop, tolerable, spent, used_up, all_tried}
 
 -- THE PARTS
 

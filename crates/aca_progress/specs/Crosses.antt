@@ -11,8 +11,7 @@ use Rattle.common.specs.Matrices.{matrix}
 use Rattle.aca_lines.specs.Lines.{residual, multiplied, norm, cross}
 use Rattle.aca_pivots.specs.declared.Pivot.{Pivot}
 use Rattle.aca_progress.specs.declared.Progress.{Progress}
-use Rattle.aca_progress.specs.declared.Step.{Step}
-use Rattle.aca_progress.specs.declared.Step.TheVariants.{More, Stop}
+use Rattle.aca_progress.specs.Steps.{Step, More, Stop, tolerable, spent, used_up, all_tried}
 
 -- a block: its size, and its entries by row and column
 pub record Block : Type 0 where
@@ -93,21 +92,6 @@ weighed s f =
 -- the row and the column at hand are v and u of one more term
 unfoldable pub stored : Found → Found
 stored f = found (f.us ++ f.column) (f.vs ++ f.row) f.rows f.columns f.row f.column
-
--- WHY A RUN STOPS: the tolerance is reached; the row that was read has no usable pivot; there are as many terms as the block can
--- give; or every row has been tried
-
-abbrev pub tolerable : ℕ
-tolerable = 1
-
-abbrev pub spent : ℕ
-spent = 2
-
-abbrev pub used_up : ℕ
-used_up = 3
-
-abbrev pub all_tried : ℕ
-all_tried = 4
 
 -- THE ROW THAT IS READ NEXT; `on` holds at the unread rows
 

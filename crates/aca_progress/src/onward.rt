@@ -2,12 +2,14 @@
 ghost use Rattle.std.specs.Prelude.{◌≡◌, ◌<◌};
 ghost use Rattle.common.specs.Refusals.{most_entries};
 ghost use Rattle.aca_pivots.specs.Flags.{is_on};
+ghost use Rattle.aca_progress.specs.Steps.{step_of};
 ghost use Rattle.aca_progress.specs.Crosses.{lesser as lesser_of, noted, grown, elsewhere as elsewhere_of, onward as onward_of};
 ghost use Rattle.aca_progress.specs.Crosses.{without as without_of, judged};
 ghost use Rattle.aca_progress.specs.Working.{RowsKnown, usable_here};
 
-use crate::{ALL_TRIED, Progress, Reading, SPENT, Step, TOLERABLE, USED_UP};
-use aca_pivots::{Flags, Pivot, is_on, lowest_on};
+use crate::{Progress, Reading, Step, Stop};
+use aca_pivots::{Flags, Pivot};
+use std::ops::ControlFlow;
 
 // The size below which a pivot is none: 2^-52.
 const TINY: f64 = 2.220446049250313e-16;
@@ -16,13 +18,10 @@ const TINY: f64 = 2.220446049250313e-16;
 // and is not asked: the test is absolute, however large the block is.
 pub fn is_usable(restart: bool, pivot: Pivot, s: Progress, column_flags: &Flags) -> bool
     requires { pivot.place < most_entries }
-    ensures { result ≡ usable_here «restart» (is_on column_flags.now) pivot }
+    ensures { result ≡ usable_here «restart» (is_on column_flags.now.words) pivot }
 {
     if restart {
-        if is_on(column_flags, pivot.place) {
-            return TINY <= pivot.size;
-        }
-        return false;
+        return column_flags.is_on(pivot.place) && TINY <= pivot.size;
     }
     !(pivot.size < TINY)
 }
@@ -38,7 +37,7 @@ fn lesser(smallest: f64, size: f64) -> f64
     if 0.0 < smallest {
         return smallest;
     }
-    if size == size {
+    if !size.is_nan() {
         return size;
     }
     0.0
@@ -49,11 +48,8 @@ pub fn note(s: Progress, size: f64) -> Progress
     ensures { result ≡ noted s size }
 {
     Progress {
-        estimate: s.estimate,
-        cross: s.cross,
         smallest: lesser(s.smallest, size),
-        rank: s.rank,
-        next: s.next,
+        ..s
     }
 }
 
@@ -64,53 +60,44 @@ pub fn grow(s: Progress, norm: f64, cross: f64, next: usize) -> Progress
     Progress {
         estimate: s.estimate + (norm + 2.0 * cross),
         cross,
-        smallest: s.smallest,
         rank: s.rank + 1,
         next,
+        ..s
     }
 }
 
 // The run goes on at the lowest unread row, if there is one.
 fn elsewhere(low: usize, rows: usize, row_flags: &Flags, s: Progress) -> Step
-    requires { RowsKnown low rows row_flags.now }
-    ensures { result ≡ elsewhere_of rows (is_on row_flags.now) s }
+    requires { RowsKnown low rows row_flags.now.words }
+    ensures { step_of result ≡ elsewhere_of rows (is_on row_flags.now.words) s }
 {
-    let next = lowest_on(row_flags, low, rows);
+    let next = row_flags.lowest_on(low, rows);
     if next == rows {
-        return Step::Stop(ALL_TRIED, s);
+        return ControlFlow::Break((Stop::AllTried, s));
     }
-    Step::More(Progress {
-        estimate: s.estimate,
-        cross: s.cross,
-        smallest: s.smallest,
-        rank: s.rank,
-        next,
-    })
+    ControlFlow::Continue(Progress { next, ..s })
 }
 
 // After a row without a usable pivot.
 pub fn without(reading: Reading, rows: usize, row_flags: &Flags, s: Progress) -> Step
-    requires { RowsKnown reading.low rows row_flags.now }
-    ensures { result ≡ without_of reading.restart rows (is_on row_flags.now) s }
+    requires { RowsKnown reading.low rows row_flags.now.words }
+    ensures { step_of result ≡ without_of reading.restart rows (is_on row_flags.now.words) s }
 {
     if reading.restart {
         return elsewhere(reading.low, rows, row_flags, s);
     }
-    Step::Stop(SPENT, s)
+    ControlFlow::Break((Stop::Spent, s))
 }
 
 // After a term that is not the last.
 fn onward(reading: Reading, rows: usize, row_flags: &Flags, s: Progress) -> Step
-    requires { RowsKnown reading.low rows row_flags.now × (s.next < rows) }
-    ensures { result ≡ onward_of reading.restart rows (is_on row_flags.now) s }
+    requires { RowsKnown reading.low rows row_flags.now.words × (s.next < rows) }
+    ensures { step_of result ≡ onward_of reading.restart rows (is_on row_flags.now.words) s }
 {
-    if reading.restart {
-        if is_on(row_flags, s.next) {
-            return Step::More(s);
-        }
+    if reading.restart && !row_flags.is_on(s.next) {
         return elsewhere(reading.low, rows, row_flags, s);
     }
-    Step::More(s)
+    ControlFlow::Continue(s)
 }
 
 // After a term: the tolerance is asked first, then whether there can be more, and then which row comes next.
@@ -123,14 +110,14 @@ pub fn judge(
     row_flags: &Flags,
     s: Progress,
 ) -> Step
-    requires { RowsKnown reading.low rows row_flags.now × (s.next < rows) }
-    ensures { result ≡ judged reading.restart rows most tolerance norm (is_on row_flags.now) s }
+    requires { RowsKnown reading.low rows row_flags.now.words × (s.next < rows) }
+    ensures { step_of result ≡ judged reading.restart rows most tolerance norm (is_on row_flags.now.words) s }
 {
     if norm <= tolerance * s.estimate {
-        return Step::Stop(TOLERABLE, s);
+        return ControlFlow::Break((Stop::Tolerable, s));
     }
     if s.rank == most {
-        return Step::Stop(USED_UP, s);
+        return ControlFlow::Break((Stop::UsedUp, s));
     }
     onward(reading, rows, row_flags, s)
 }

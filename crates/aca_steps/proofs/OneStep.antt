@@ -23,7 +23,7 @@ use Rattle.aca_steps.specs.Standing.{standing, Marks, Ready, made, Stepped}
 use Rattle.aca_steps.specs.Working.{RowFits, Lent, TermFits, TermStored}
 use Rattle.aca_progress.specs.declared.Progress.{Progress}
 use Rattle.aca_progress.specs.declared.Reading.{Reading}
-use Rattle.aca_progress.specs.declared.Step.{Step}
+use Rattle.aca_progress.specs.Steps.{Step}
 use Rattle.aca_steps.proofs.Fronts.{upon_same, upon_stretch, upon_set}
 use Rattle.aca_progress.proofs.Chosen.{usable_here_lem}
 use Rattle.aca_steps.proofs.Marked.{marks_more, known_more, pivot_unread, argmax_unread, without_cong, judged_cong}

@@ -15,7 +15,7 @@ use Rattle.common.proofs.Sums.{sums_cong}
 use Rattle.aca_lines.specs.Lines.{residual, entry, cross}
 use Rattle.aca_progress.specs.Crosses.{grown, judged}
 use Rattle.aca_progress.specs.declared.Progress.{Progress}
-use Rattle.aca_progress.specs.declared.Step.{Step}
+use Rattle.aca_progress.specs.Steps.{Step}
 
 -- the first k columns of a matrix are all that the first k terms are about
 front : (m k : ℕ) (l : List Float) (i j : ℕ) → i < m → j < k → matrix m (take (k * m) l) i j ≡ matrix m l i j

@@ -7,7 +7,7 @@ use Rattle.aca_progress.specs.Working.{RowsKnown}
 use Rattle.aca_steps.specs.Memories.{Memory, laid, block_of}
 use Rattle.aca_progress.specs.declared.Progress.{Progress}
 use Rattle.aca_progress.specs.declared.Reading.{Reading}
-use Rattle.aca_progress.specs.declared.Step.{Step}
+use Rattle.aca_progress.specs.Steps.{Step}
 
 -- What has been found after so many rows were read and k terms stored. A row may be read and give no term, so the two are counted
 -- apart.

@@ -8,7 +8,7 @@ use Rattle.aca_pivots.specs.Largest.{argmax}
 use Rattle.aca_lines.specs.Lines.{column_less, multiplied, as_column, norm, cross}
 use Rattle.aca_progress.specs.Crosses.{grown, judged}
 use Rattle.aca_progress.specs.declared.Progress.{Progress}
-use Rattle.aca_progress.specs.declared.Step.{Step}
+use Rattle.aca_progress.specs.Steps.{Step}
 
 -- THE ROW: row i of so many is read behind k terms, as number `read` of the list
 pub record RowFits (samples rows i k read : ℕ) (us vs row : List Float) (list : List ℕ) : Type 0 where

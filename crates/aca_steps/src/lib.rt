@@ -6,22 +6,23 @@ ghost use Rattle.common.specs.Refusals.{most_entries};
 ghost use Rattle.aca_pivots.specs.Flags.{is_on, cleared};
 ghost use Rattle.aca_pivots.specs.Largest.{argmax, pivot};
 ghost use Rattle.aca_lines.specs.Lines.{row_less};
+ghost use Rattle.aca_progress.specs.Steps.{step_of};
 ghost use Rattle.aca_progress.specs.Working.{RowsKnown};
 ghost use Rattle.aca_steps.specs.Memories.{behind};
 ghost use Rattle.aca_steps.specs.Standing.{Ready, made, Stepped};
 ghost use Rattle.aca_steps.specs.Working.{RowFits, lent, TermFits, ColumnTaken, TermStored};
 
 use aca_lines::{cross, multiply, norm, read_column, read_row, store};
-use aca_pivots::{Flags, Pivot, clear, pick_on, place_on};
+use aca_pivots::{Flags, Pivot, pick_on, place_on};
 use aca_progress::{Progress, Reading, Step, grow, is_usable, judge, note, without};
 
 // Row or column i is used, and is number k of those read.
 fn mark(i: usize, k: usize, flags: &mut Flags, list: &mut [u16])
     requires { (i < most_entries) × (k < length list.old) }
-    ensures flags_after { flags.new ≡ cleared flags.old i }
+    ensures flags_after { flags.new.words ≡ cleared flags.old.words i }
     ensures list_after { list.new ≡ set list.old k i }
 {
-    clear(flags, i);
+    flags.clear(i);
     list[k] = i as u16;
 }
 
@@ -40,10 +41,10 @@ fn take_row(
     row: &mut [f64],
 ) -> Pivot
     requires { RowFits (length samples.now) rows i k read u.now v.now row.old row_list.old }
-    ensures value { result ≡ pivot row.new (is_on column_flags.now) }
+    ensures value { result ≡ pivot row.new (is_on column_flags.now.words) }
     ensures row_after { row.new
         ≡ row_less rows (length row.old) samples.now u.now v.now k i }
-    ensures row_flags_after { row_flags.new ≡ cleared row_flags.old i }
+    ensures row_flags_after { row_flags.new.words ≡ cleared row_flags.old.words i }
     ensures row_list_after { row_list.new ≡ set row_list.old read i }
 {
     read_row(samples, rows, i, k, u, v, row);
@@ -64,11 +65,11 @@ fn take_column(
     row: &mut [f64],
     column: &mut [f64],
 ) -> usize
-    requires { TermFits (length samples.now) k j (lent u.now v.now column_flags.old column_list.old row.old column.old) }
-    ensures value { result ≡ argmax column.new (is_on row_flags.now) }
+    requires { TermFits (length samples.now) k j (lent u.now v.now column_flags.old.words column_list.old row.old column.old) }
+    ensures value { result ≡ argmax column.new (is_on row_flags.now.words) }
     ensures column_taken { ColumnTaken samples.now k j
-        (lent u.now v.now column_flags.old column_list.old row.old column.old)
-        row.new column.new column_flags.new column_list.new }
+        (lent u.now v.now column_flags.old.words column_list.old row.old column.old)
+        row.new column.new column_flags.new.words column_list.new }
 {
     let columns = row.len();
     multiply(1.0 / row[j], row);
@@ -92,11 +93,11 @@ fn accept(
     row: &mut [f64],
     column: &mut [f64],
 ) -> Step
-    requires { TermFits (length samples.now) s.rank j (lent u.old v.old column_flags.old column_list.old row.old column.old) ×
-        RowsKnown reading.low (length column.old) row_flags.now }
-    ensures { TermStored samples.now tolerance reading.restart s j row_flags.now
-        (lent u.old v.old column_flags.old column_list.old row.old column.old)
-        result (lent u.new v.new column_flags.new column_list.new row.new column.new) }
+    requires { TermFits (length samples.now) s.rank j (lent u.old v.old column_flags.old.words column_list.old row.old column.old) ×
+        RowsKnown reading.low (length column.old) row_flags.now.words }
+    ensures { TermStored samples.now tolerance reading.restart s j row_flags.now.words
+        (lent u.old v.old column_flags.old.words column_list.old row.old column.old)
+        (step_of result) (lent u.new v.new column_flags.new.words column_list.new row.new column.new) }
 {
     let k = s.rank;
     let next = take_column(
@@ -141,12 +142,12 @@ pub fn advance(
     column: &mut [f64],
 ) -> Step
     requires { Ready (length samples.now) (behind u.old v.old row_list.old column_list.old row.old column.old) reading s
-        row_flags.old column_flags.old }
+        row_flags.old.words column_flags.old.words }
     ensures { Stepped reading.low (made samples.now tolerance reading s
         (behind u.old v.old row_list.old column_list.old row.old column.old))
         (behind u.old v.old row_list.old column_list.old row.old column.old)
-        result (behind u.new v.new row_list.new column_list.new row.new column.new)
-        row_flags.new column_flags.new }
+        (step_of result) (behind u.new v.new row_list.new column_list.new row.new column.new)
+        row_flags.new.words column_flags.new.words }
 {
     let k = s.rank;
     let i = s.next;

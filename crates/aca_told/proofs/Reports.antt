@@ -14,9 +14,11 @@ use Rattle.common.proofs.Cases.{by_bool}
 use Rattle.common.proofs.Limits.{left_done, left_refused}
 use Rattle.aca_steps.specs.Memories.{Memory, laid}
 use Rattle.aca.specs.Runs.{fits, report, lengths, aca_number, approximation, Call, call, aca_call}
-use Rattle.aca.specs.Answers.{told}
-use Rattle.aca.specs.declared.Report.{Report}
-use Rattle.aca.specs.declared.Approximation.{Approximation}
+use Rattle.aca.specs.Reports.{told}
+use Rattle.aca.specs.Reports.{Report}
+use Rattle.std.specs.Prelude.{Result}
+use Rattle.common.specs.declared.refusals.Refusal.{Refusal}
+use Rattle.aca.specs.declared.Report.{Report as Made}
 use Rattle.answers.specs.Answers.{with_length}
 use Rattle.aca_told.specs.Told.{counts_of, numbers_of, report_fits, cross_number, crossed, cross_told}
 use Rattle.aca_told.specs.Working.{report_told, unfit_number}
@@ -47,7 +49,9 @@ module _ (m n : ℕ) (a : List Float) (epsilon : Float) (restart : Bool) (t : Me
   unfit_is : report_fits c e ≡ false → unfit_number m n ≡ cross_number restart m n a t c e
   unfolding unfit_number cross_number with_length lower aca_number
   unfit_is h =
-      rw h (by_bool (leb m most_entries && leb n most_entries) (λ l. rw l (by_bool (fits restart m n (lengths a t)) (λ f. rw f) (λ f. rw f)))
+      rw h
+      (by_bool (leb m most_entries && leb n most_entries)
+      (λ l. rw l (by_bool (fits restart m n (lengths a t)) (λ f. rw f) (λ f. rw f)))
       (λ l. rw l))
 
   unfit_refuses : unfit_number m n ≡ 0 → ⊥
@@ -69,7 +73,7 @@ module _ (m n : ℕ) (a : List Float) (epsilon : Float) (restart : Bool) (t : Me
       )
 
   -- slices that fit: the answer of the run, in numbers
-  pub cross_fit : (r : Approximation) (t' : Memory) (number : ℕ) (c' : List ℕ) (e' : List Float) → report_fits c e ≡ true →
+  pub cross_fit : (r : Result Made Refusal) (t' : Memory) (number : ℕ) (c' : List ℕ) (e' : List Float) → report_fits c e ≡ true →
       call (told r) t' ≡ aca_call m n a epsilon restart t → (number, c', e') ≡ report_told (told r) c e →
       crossed number t' c' e' ≡ cross_told m n a epsilon restart t c e
   unfolding aca_call cross_told cross_number

@@ -3,7 +3,7 @@ use Rattle.std.specs.Prelude.{ℕ, Bool, ◌&&◌, List, [], ◌∷◌, eqb, Flo
 use Rattle.common.specs.Refusals.{left}
 use Rattle.aca_steps.specs.Memories.{Memory, laid}
 use Rattle.aca.specs.Runs.{report, lengths, aca_number, approximation}
-use Rattle.aca.specs.declared.Report.{Report}
+use Rattle.aca.specs.Reports.{Report}
 use Rattle.answers.specs.Answers.{with_length}
 
 abbrev pub counts_of : Report → List ℕ

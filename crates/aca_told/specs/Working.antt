@@ -2,7 +2,7 @@
 use Rattle.std.specs.Prelude.{ℕ, ◌&&◌, List, leb, Float}
 use Rattle.std.proofs.Math.Option.{Option, none, some}
 use Rattle.common.specs.Refusals.{no_count, wrong_length, unless, most_entries}
-use Rattle.aca.specs.declared.Report.{Report}
+use Rattle.aca.specs.Reports.{Report}
 use Rattle.aca_told.specs.Told.{counts_of, numbers_of}
 
 -- a number and perhaps a report, in slices that fit

@@ -1,9 +1,12 @@
 -- Sums of squares from the end: one place more to the front; and they never fall. Assumes nothing.
-use mathlib.Core.Path.{◌≡◌, refl, sym, ◌∙◌}
+use mathlib.Core.Path.{◌≡◌, refl, sym, ap, ◌∙◌}
 use mathlib.Core.Bool.{true, false, true≢false}
-use mathlib.Core.List.{List, [], ◌∷◌}
-use Prim.Native.Nat.{ℕ, zero, suc, ◌-◌, ◌<◌, ◌≤◌}
+use mathlib.Core.List.{List, [], ◌∷◌, ◌++◌, reverse}
+use Prim.Native.Nat.{ℕ, zero, suc, ◌+◌, ◌-◌, ◌<◌, ◌≤◌}
 use native.Mathlib.Omega.{arith}
+use Rattle.std.specs.List.{fold}
+use Rattle.std.proofs.lemmas.List.{reverse-append}
+use Rattle.std.proofs.lemmas.List.Sums.{fold-append}
 use lib.Dec.{T}
 use lib.Ieee.{Float, nan, inf, fin, binary64, of_bits, of_fields, odd, add, lt, fits, is_nan}
 use lib.Ieee.Bits.{of_bits-fits}
@@ -66,6 +69,15 @@ module _ (b : Float) where
   found_after (x ∷ l) zero h above z = rw (above, z)
   found_after (x ∷ l) (suc i) h above z = rw (above_all (x ∷ l) (suc i) above, found_after l i (omega arith) above z)
 
+-- A FOLD FROM THE END
+pub squares_folded : (l : List Float) → fold (λ (s x : Float). plus s (times x x)) zero₆₄ (reverse l) ≡ squares l
+unfolding squares
+squares_folded [] = refl
+squares_folded (x ∷ l) =
+    let square = λ (s y : Float). plus s (times y y) in
+    let last : reverse (x ∷ l) ≡ reverse l ++ x ∷ [] = reverse-append (x ∷ []) l in
+    ap (fold square zero₆₄) last ∙ fold-append square zero₆₄ (reverse l) (x ∷ []) ∙ ap (λ (s : Float). square s x) (squares_folded l)
+
 -- ONE PLACE MORE TO THE FRONT
 
 -- none yet
@@ -98,8 +110,9 @@ module _ (l : List Float) (i : ℕ) (some : 0 < i) (most : i ≤ length l) where
         rw (tail, below)
 
     -- or it is not
-    pub first_after : lt x b ≡ false → first_below b (drop i l) ≡ 0 → i ≡ first_below b l
+    pub first_after : lt x b ≡ false → first_below b (drop i l) ≡ 0 → i - 1 + 1 ≡ first_below b l
     first_after t z =
         let next : suc (i - 1) ≡ i = omega arith in
         let above : lt (squares (drop (i - 1) l)) b ≡ false = rw e at t in
-        sym (found_after b l (i - 1) (omega arith) above (rw next z) ∙ next)
+        let here : i - 1 + 1 ≡ suc (i - 1) = omega arith in
+        here ∙ sym (found_after b l (i - 1) (omega arith) above (rw next z))

@@ -6,10 +6,3 @@ mod cutoff;
 
 pub use argmax::argmax_masked;
 pub use cutoff::calculate_singular_values_cutoff;
-
-// A place in a list, or the number of a refusal.
-#[derive(Drop)]
-pub enum Place {
-    Refused(u8),
-    At(usize),
-}

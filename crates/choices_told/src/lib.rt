@@ -2,33 +2,27 @@
 #![tactic(auto)]
 
 ghost use Rattle.std.specs.Prelude.{◌≡◌};
-ghost use Rattle.choices.specs.Places.{told};
+ghost use Rattle.common.specs.Numbers.{told, told_number};
 ghost use Rattle.choices_told.specs.Told.{argmax_told, cutoff_told};
 ghost use Rattle.choices_told.specs.Working.{place_told};
 
 use answers::with_length;
-use choices::{Place, argmax_masked, calculate_singular_values_cutoff};
+use choices::{argmax_masked, calculate_singular_values_cutoff};
+use common::Refusal;
 
 // A place in the lent answer, or a refusal.
-fn tell_place(found: Place, place: &mut [usize]) -> u8
-    ensures { (result, place.new) ≡ place_told (told found) place.old }
+fn tell_place(found: Result<usize, Refusal>, place: &mut [usize]) -> Result<(), Refusal>
+    ensures { (told_number result, place.new) ≡ place_told (told found) place.old }
 {
     let is_fit = place.len() == 1;
-    match found {
-        Place::Refused(number) => with_length(number, is_fit),
-        Place::At(at) => {
-            if is_fit {
-                place[0] = at;
-                return 0;
-            }
-            common::WRONG_LENGTH
-        }
-    }
+    let at = with_length(found, is_fit)?;
+    place[0] = at;
+    Ok(())
 }
 
 // The first place of the largest size among the entries whose mask byte is 1, or 0.
-pub fn argmax_masked_told(entries: &[f64], mask: &[u8], place: &mut [usize]) -> u8
-    ensures { (result, place.new) ≡ argmax_told entries.now mask.now place.old }
+pub fn argmax_masked_told(entries: &[f64], mask: &[u8], place: &mut [usize]) -> Result<(), Refusal>
+    ensures { (told_number result, place.new) ≡ argmax_told entries.now mask.now place.old }
 {
     tell_place(argmax_masked(entries, mask), place)
 }
@@ -38,8 +32,8 @@ pub fn calculate_singular_values_cutoff_told(
     values: &[f64],
     epsilon: f64,
     place: &mut [usize],
-) -> u8
-    ensures { (result, place.new) ≡ cutoff_told values.now epsilon place.old }
+) -> Result<(), Refusal>
+    ensures { (told_number result, place.new) ≡ cutoff_told values.now epsilon place.old }
 {
     tell_place(calculate_singular_values_cutoff(values, epsilon), place)
 }

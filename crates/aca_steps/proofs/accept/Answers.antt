@@ -6,6 +6,7 @@ use lib.ListN.{length}
 use Rattle.aca_pivots.specs.Flags.{is_on}
 use Rattle.aca_pivots.proofs.Largest.{argmax_in}
 use Rattle.aca_progress.specs.Crosses.{grown}
+use Rattle.aca_progress.specs.Steps.{step_of}
 use Rattle.aca_steps.specs.Working.{judged_here}
 use Rattle.aca_steps.proofs.Terms.{judged_so}
 use Rattle.aca_steps.proofs.accept.Goals.{After-take_column-next}
@@ -27,18 +28,20 @@ module _ (c : After-take_column-next) where
   next_inside =
       subst (λ (n : ℕ). n < length c.args.column.now) (sym c.take_column-next.ensures.value)
       (rw column_same at
-      (argmax_in c.take_column-next.new.column (is_on c.args.row_flags.now)
+      (argmax_in c.take_column-next.new.column (is_on c.args.row_flags.now.words)
       (rw column_same c.requires.1.some)))
 
 pub cross-shared-requires : goal.cross-shared-requires
 cross-shared-requires c =
+    let p = (goal.at.cross-shared-requires c).After-take_column-next in
     let f = c.requires.0 in
-    rw (column_same (goal.at.cross-shared-requires c).After-take_column-next, row_same (goal.at.cross-shared-requires c).After-take_column-next) (omega (arith, f.u_room), omega (arith, f.v_room))
+    rw (column_same p, row_same p) (omega (arith, f.u_room), omega (arith, f.v_room))
 
 pub store-requires : goal.store-requires
 store-requires c =
+    let p = (goal.at.store-requires c).After-take_column-next in
     let f = c.requires.0 in
-    rw (column_same (goal.at.store-requires c).After-take_column-next, row_same (goal.at.store-requires c).After-take_column-next) (record { column_in_bounds = f.u_room; row_in_bounds = f.v_room })
+    rw (column_same p, row_same p) (record { column_in_bounds = f.u_room; row_in_bounds = f.v_room })
 
 pub grow-requires : goal.grow-requires
 grow-requires c = c.requires.0.few
@@ -46,9 +49,10 @@ grow-requires c = c.requires.0.few
 pub judge-requires : goal.judge-requires
 unfolding grown
 judge-requires c =
+    let p = (goal.at.judge-requires c).After-take_column-next in
     let known = c.requires.1 in
-    rw (column_same (goal.at.judge-requires c).After-take_column-next)
-    (known, rw c.grow.ensures (next_inside (goal.at.judge-requires c).After-take_column-next))
+    rw (column_same p)
+    (known, rw c.grow.ensures (next_inside p))
 
 pub shape_of-column_list : goal.shape_of-column_list
 shape_of-column_list c = list_same (goal.at.shape_of-column_list c).After-take_column-next
@@ -62,8 +66,8 @@ returns c =
           let x = c.take_column-next.new.column in
           let w = c.take_column-next.new.row in
           subst
-          (λ (k : ℕ). c.judge.result
-          ≡ judged_here a.reading.restart k a.tolerance a.s a.u.now a.v.now x w a.row_flags.now)
+          (λ (k : ℕ). step_of c.judge.result
+          ≡ judged_here a.reading.restart k a.tolerance a.s a.u.now a.v.now x w a.row_flags.now.words)
           (list_same (goal.at.returns c).After-take_column-next)
           (judged_so c.args.reading.restart _ _ c.args.tolerance _ c.args.s c.judge.ensures
           c.grow.ensures

@@ -1,11 +1,16 @@
 -- `aca_told::aca_partial_pivoting_told` meets its contract: slices that do not fit, or what the run answers, in numbers. Assumes
 -- nothing.
+use mathlib.Core.Path.{◌≡◌}
+use mathlib.Core.Bool.{false}
 use mathlib.Core.List.{List}
 use Prim.Native.Nat.{ℕ}
 use lib.Ieee.{Float}
 use Rattle.aca_steps.specs.Memories.{Memory, memory}
+use Rattle.aca_told.specs.Told.{report_fits}
 use Rattle.aca_told.proofs.Reports.{fit_both, unfit_counts, unfit_numbers, cross_unfit, cross_fit}
 use Rattle.aca_told.proofs.aca_partial_pivoting_told.Goals.{After-aca_partial_pivoting-made, Start}
+use Rattle.aca_told.proofs.aca_partial_pivoting_told.Goals.{then-counts-ne3-via-then-counts-ne3}
+use Rattle.aca_told.proofs.aca_partial_pivoting_told.Goals.{then-counts-ne3-via-else-counts-ne3+then-numbers-ne2}
 use Rattle.aca_told.proofs.aca_partial_pivoting_told.Goals as goal
 
 -- what was lent, and what the call leaves
@@ -34,19 +39,20 @@ after c =
 pub returns-then-counts-ne3 : goal.returns-then-counts-ne3
 returns-then-counts-ne3 c =
     let a = c.args in
-    cross_unfit a.rows a.columns a.samples.now a.epsilon a.restart (lent (goal.at.returns-then-counts-ne3 c).Start) (counts (goal.at.returns-then-counts-ne3 c).Start) (numbers (goal.at.returns-then-counts-ne3 c).Start)
-    c.unfit_number.result c.unfit_number.ensures (unfit_counts (counts (goal.at.returns-then-counts-ne3 c).Start) (numbers (goal.at.returns-then-counts-ne3 c).Start) c.if-counts-ne3.true)
-
-pub returns-then-numbers-ne2 : goal.returns-then-numbers-ne2
-returns-then-numbers-ne2 c =
-    let a = c.args in
-    cross_unfit a.rows a.columns a.samples.now a.epsilon a.restart (lent (goal.at.returns-then-numbers-ne2 c).Start) (counts (goal.at.returns-then-numbers-ne2 c).Start) (numbers (goal.at.returns-then-numbers-ne2 c).Start)
-    c.unfit_number-then-numbers-ne2.result c.unfit_number-then-numbers-ne2.ensures (unfit_numbers (counts (goal.at.returns-then-numbers-ne2 c).Start) (numbers (goal.at.returns-then-numbers-ne2 c).Start) c.if-counts-ne3.false c.if-numbers-ne2.true)
+    let s = (goal.at.returns-then-counts-ne3 c).Start in
+    let unfit : report_fits (counts s) (numbers s) ≡ false = elim c.then-counts-ne3.branch [
+      | then-counts-ne3-via-then-counts-ne3 w ↦ unfit_counts (counts s) (numbers s) w.if-counts-ne3.true
+      | then-counts-ne3-via-else-counts-ne3+then-numbers-ne2 w ↦
+          unfit_numbers (counts s) (numbers s) w.if-counts-ne3.false w.if-numbers-ne2.true
+    ] in
+    cross_unfit a.rows a.columns a.samples.now a.epsilon a.restart (lent s) (counts s) (numbers s) _ c.unfit.ensures unfit
 
 pub returns : goal.returns
 returns c =
     let a = c.args in
     let t = c.tell_report in
-    cross_fit a.rows a.columns a.samples.now a.epsilon a.restart (lent (goal.at.returns c).Start) (counts (goal.at.returns c).Start) (numbers (goal.at.returns c).Start)
-    c.aca_partial_pivoting-made.result (after (goal.at.returns c).After-aca_partial_pivoting-made) t.result t.new.counts t.new.numbers
-    (fit_both (counts (goal.at.returns c).Start) (numbers (goal.at.returns c).Start) c.if-counts-ne3.false c.if-numbers-ne2.false) c.aca_partial_pivoting-made.ensures t.ensures
+    let s = (goal.at.returns c).Start in
+    let fit = fit_both (counts s) (numbers s) c.if-counts-ne3.false c.if-numbers-ne2.false in
+    let left = after (goal.at.returns c).After-aca_partial_pivoting-made in
+    cross_fit a.rows a.columns a.samples.now a.epsilon a.restart (lent s) (counts s) (numbers s)
+    c.aca_partial_pivoting-made.result left _ t.new.counts t.new.numbers fit c.aca_partial_pivoting-made.ensures t.ensures

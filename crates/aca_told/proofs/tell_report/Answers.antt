@@ -1,6 +1,7 @@
--- `aca_told::tell_report` meets its contract: each arm by its variant. Assumes nothing.
+-- `aca_told::tell_report` meets its contract: a refusal is handed on, and a report is stored. Assumes nothing.
 use native.Mathlib.Omega.{arith}
 use lib.ListN.{length-set}
+use Rattle.common.proofs.Numbers.{handed_on}
 use Rattle.aca_told.specs.Working.{report_told}
 use Rattle.answers.proofs.Lengths.{stored_two, stored_three}
 use Rattle.aca_told.proofs.tell_report.Goals as goal
@@ -20,9 +21,9 @@ bounds-numbers-0 c = omega (arith, c.requires.1)
 pub bounds-numbers-1 : goal.bounds-numbers-1
 bounds-numbers-1 c = simp length-set (omega (arith, c.requires.1))
 
-pub returns-in-Refused : goal.returns-in-Refused
+pub returns-in_err-report : goal.returns-in_err-report
 unfolding report_told
-returns-in-Refused c = rw c.in-Refused.is
+returns-in_err-report c = rw (handed_on _ _ c.from_residual.ensures.1, c.in_err-report.was)
 
 pub shape_of-counts : goal.shape_of-counts
 shape_of-counts c = simp length-set
@@ -30,11 +31,12 @@ shape_of-counts c = simp length-set
 pub shape_of-numbers : goal.shape_of-numbers
 shape_of-numbers c = simp length-set
 
-pub returns-in-Done : goal.returns-in-Done
+pub returns : goal.returns
 unfolding report_told
-returns-in-Done c =
+returns c =
     rw (
-      c.in-Done.is,
+      c.in_ok-report.was,
       stored_three c.args.counts.now _ _ _ c.requires.0,
       stored_two c.args.numbers.now _ _ c.requires.1,
+      c.number.ensures,
     )

@@ -1,25 +1,30 @@
--- `choices_told::tell_place` meets its contract: each arm by its variant, and by the answer's length. Assumes nothing.
-use borrow.Author.Tests.{eq-eqb, ne_eqb}
-use mathlib.Core.Path.{refl}
+-- `choices_told::tell_place` meets its contract: a refusal is handed on, and a place is stored. Assumes nothing.
+use mathlib.Core.Path.{◌≡◌, refl}
 use mathlib.Core.List.{[], ◌∷◌}
+use native.Mathlib.Omega.{arith}
+use lib.ListN.{length}
+use borrow.Author.Tests.{eqb-true}
+use Rattle.common.proofs.Numbers.{handed_on, number_above}
+use Rattle.answers.proofs.Lengths.{written_done, stored_one}
 use Rattle.choices_told.specs.Working.{place_told}
-use Rattle.answers.proofs.Lengths.{written_unfit, written_done, stored_one}
+use Rattle.choices_told.proofs.Places.{place_refused}
 use Rattle.choices_told.proofs.tell_place.Goals as goal
 
-pub returns-then-is_fit : goal.returns-then-is_fit
-unfolding place_told
-returns-then-is_fit c =
+pub returns-in_err-at : goal.returns-in_err-at
+returns-in_err-at c =
     let place = c.args.place.now in
-    rw c.in-At.is
-    (written_done (c.in-At.at ∷ []) place 0 _ refl (eq-eqb _ 1 c.if-is_fit.true) (stored_one place _ c.if-is_fit.true))
+    let r = c.in_err-at.field-0.0 in
+    rw (handed_on _ _ c.from_residual.ensures.1) (place_refused c.args.found place _ c.in_err-at.ensures.number (number_above r))
 
-pub returns-in-Refused : goal.returns-in-Refused
-unfolding place_told
-returns-in-Refused c = rw (c.in-Refused.is, c.with_length.ensures)
+pub bounds-place-0 : goal.bounds-place-0
+bounds-place-0 c =
+    let one : length c.args.place.now ≡ 1 = eqb-true _ _ c.in_ok-at.ensures.values.1 in
+    omega arith
 
-pub returns-else-is_fit : goal.returns-else-is_fit
+pub returns : goal.returns
 unfolding place_told
-returns-else-is_fit c =
-    rw c.in-At.is
-    (written_unfit (c.in-At.at ∷ []) c.args.place.now 0 refl
-    (ne_eqb _ 1 c.if-is_fit.false))
+returns c =
+    let place = c.args.place.now in
+    let at = c.in_ok-at.at in
+    let values = c.in_ok-at.ensures.values in
+    rw values.0 (written_done (at ∷ []) place 0 _ refl values.1 (stored_one place at (eqb-true _ _ values.1)))

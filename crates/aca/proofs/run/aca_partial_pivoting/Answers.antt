@@ -1,11 +1,12 @@
 -- `aca::run::aca_partial_pivoting` meets its contract. Assumes nothing.
+use mathlib.Core.Path.{sym}
 use Rattle.aca_steps.specs.Memories.{Memory, memory}
 use Rattle.aca.proofs.Answers.{refused, begun, finished}
-use Rattle.aca.proofs.run.aca_partial_pivoting.Goals.{After-aca_number-number, After-run}
+use Rattle.aca.proofs.run.aca_partial_pivoting.Goals.{After-check_aca, After-run}
 use Rattle.aca.proofs.run.aca_partial_pivoting.Goals as goal
 
 -- the memory as it was lent, and after the run
-abbrev lent : After-aca_number-number → Memory
+abbrev lent : After-check_aca → Memory
 lent c =
     let a = c.args in
     memory a.u.now a.v.now a.row_list.now a.column_list.now a.row.now a.column.now
@@ -20,20 +21,20 @@ after c =
     c.run.new.row
     c.run.new.column
 
-pub returns-then-number-ne0 : goal.returns-then-number-ne0
-returns-then-number-ne0 c =
+pub returns-in_err-check_aca : goal.returns-in_err-check_aca
+returns-in_err-check_aca c =
     let a = c.args in
-    refused a.rows a.columns a.samples.now a.epsilon a.restart (lent (goal.at.returns-then-number-ne0 c).After-aca_number-number) c.aca_number-number.result c.aca_number-number.ensures
-    c.if-number-ne0.true
+    let t = lent (goal.at.returns-in_err-check_aca c).After-check_aca in
+    refused a.rows a.columns a.samples.now a.epsilon a.restart t _ _ c.from_residual.ensures.1 c.in_err-check_aca.ensures
 
 pub run-requires : goal.run-requires
 run-requires c =
     let a = c.args in
-    begun a.rows a.columns a.samples.now a.epsilon a.restart (lent (goal.at.run-requires c).After-aca_number-number) c.aca_number-number.result c.aca_number-number.ensures
-    c.if-number-ne0.false _ _ c.all_on-row_flags.ensures c.all_on-column_flags.ensures
+    begun a.rows a.columns a.samples.now a.epsilon a.restart (lent (goal.at.run-requires c).After-check_aca)
+    (sym c.in_ok-check_aca.ensures) _ _ c.all_on-row_flags.ensures c.all_on-column_flags.ensures
 
 pub returns : goal.returns
 returns c =
     let a = c.args in
-    finished a.rows a.columns a.samples.now a.epsilon a.restart (lent (goal.at.returns c).After-aca_number-number) c.aca_number-number.result c.aca_number-number.ensures
-    c.if-number-ne0.false c.run.result (after (goal.at.returns c).After-run) c.run.ensures
+    finished a.rows a.columns a.samples.now a.epsilon a.restart (lent (goal.at.returns c).After-check_aca)
+    (sym c.in_ok-check_aca.ensures) c.run.result (after (goal.at.returns c).After-run) c.run.ensures

@@ -12,10 +12,10 @@ lowest_on-requires c = let k = c.requires in (k.low_most, k.tall, k.below)
 pub returns-then-restart : goal.returns-then-restart
 returns-then-restart c =
     let a = c.args in
-    subst (λ (low : ℕ). RowsKnown low a.rows a.row_flags.now) (sym c.lowest_on.ensures)
+    subst (λ (low : ℕ). RowsKnown low a.rows a.row_flags.now.words) (sym c.lowest_on.ensures)
     (record {
       some = c.requires.some;
       tall = c.requires.tall;
-      low_most = lowest_most a.rows (is_on a.row_flags.now);
-      below = lowest_least a.rows (is_on a.row_flags.now);
+      low_most = lowest_most a.rows (is_on a.row_flags.now.words);
+      below = lowest_least a.rows (is_on a.row_flags.now.words);
     })

@@ -1,6 +1,7 @@
 -- `aca::run::run` meets its contract. The loop keeps: what is left of the run, from where the memory stands, is the
 -- whole run. Assumes nothing.
-use mathlib.Core.Path.{refl}
+use mathlib.Core.Path.{◌≡◌, refl, ap}
+use Rattle.aca_progress.specs.Steps.{step_of}
 use mathlib.Core.Bool.{Bool}
 use mathlib.Core.List.{List}
 use Prim.Native.Nat.{◌<◌}
@@ -35,7 +36,9 @@ module _ (c : At-loop-read) where
   abbrev held : Memory
   held = memory c.loop-read.u c.loop-read.v c.loop-read.row_list c.loop-read.column_list c.loop-read.row c.loop-read.column
 
-  going : Going samples tolerance restart lent held c.loop-read.row_flags c.loop-read.column_flags c.loop-read.s c.loop-read.read c.loop-read.low
+  going :
+      let l = c.loop-read in
+      Going samples tolerance restart lent held l.row_flags.words l.column_flags.words l.s l.read l.low
   going = c.loop-read.invariant.2
 
 -- inside the loop a step is left
@@ -85,53 +88,61 @@ loop-read-init c =
 
 pub advance-made-requires : goal.advance-made-requires
 advance-made-requires c =
-    ready (samples (goal.at.advance-made-requires c).At-loop-read) (tolerance (goal.at.advance-made-requires c).At-loop-read) (restart (goal.at.advance-made-requires c).At-loop-read) (lent (goal.at.advance-made-requires c).At-loop-read) _ _ c.requires (held (goal.at.advance-made-requires c).At-loop-read) _ _ _ _ _ (going (goal.at.advance-made-requires c).At-loop-read) (remains (goal.at.advance-made-requires c).In-loop-read)
+    let p = (goal.at.advance-made-requires c).At-loop-read in
+    let q = (goal.at.advance-made-requires c).In-loop-read in
+    ready (samples p) (tolerance p) (restart p) (lent p) _ _ c.requires (held p)
+    _ _ _ _ _ (going p) (remains q)
 
 pub overflow_add-read : goal.overflow_add-read
 overflow_add-read c = omega (arith, few (goal.at.overflow_add-read c).In-loop-read)
 
-pub shape_of-u-in-Stop : goal.shape_of-u-in-Stop
-shape_of-u-in-Stop c = (all_same (goal.at.shape_of-u-in-Stop c).After-advance-made).us_same
+pub shape_of-u-in-Break : goal.shape_of-u-in-Break
+shape_of-u-in-Break c = (all_same (goal.at.shape_of-u-in-Break c).After-advance-made).us_same
 
-pub shape_of-v-in-Stop : goal.shape_of-v-in-Stop
-shape_of-v-in-Stop c = (all_same (goal.at.shape_of-v-in-Stop c).After-advance-made).vs_same
+pub shape_of-v-in-Break : goal.shape_of-v-in-Break
+shape_of-v-in-Break c = (all_same (goal.at.shape_of-v-in-Break c).After-advance-made).vs_same
 
-pub shape_of-row_list-in-Stop : goal.shape_of-row_list-in-Stop
-shape_of-row_list-in-Stop c = (all_same (goal.at.shape_of-row_list-in-Stop c).After-advance-made).rows_same
+pub shape_of-row_list-in-Break : goal.shape_of-row_list-in-Break
+shape_of-row_list-in-Break c = (all_same (goal.at.shape_of-row_list-in-Break c).After-advance-made).rows_same
 
-pub shape_of-column_list-in-Stop : goal.shape_of-column_list-in-Stop
-shape_of-column_list-in-Stop c = (all_same (goal.at.shape_of-column_list-in-Stop c).After-advance-made).columns_same
+pub shape_of-column_list-in-Break : goal.shape_of-column_list-in-Break
+shape_of-column_list-in-Break c = (all_same (goal.at.shape_of-column_list-in-Break c).After-advance-made).columns_same
 
-pub shape_of-row-in-Stop : goal.shape_of-row-in-Stop
-shape_of-row-in-Stop c = (all_same (goal.at.shape_of-row-in-Stop c).After-advance-made).row_same
+pub shape_of-row-in-Break : goal.shape_of-row-in-Break
+shape_of-row-in-Break c = (all_same (goal.at.shape_of-row-in-Break c).After-advance-made).row_same
 
-pub shape_of-column-in-Stop : goal.shape_of-column-in-Stop
-shape_of-column-in-Stop c = (all_same (goal.at.shape_of-column-in-Stop c).After-advance-made).column_same
+pub shape_of-column-in-Break : goal.shape_of-column-in-Break
+shape_of-column-in-Break c = (all_same (goal.at.shape_of-column-in-Break c).After-advance-made).column_same
 
-pub returns-in-Stop : goal.returns-in-Stop
-returns-in-Stop c =
+pub returns-in-Break : goal.returns-in-Break
+returns-in-Break c =
+    let p = (goal.at.returns-in-Break c).At-loop-read in
+    let q = (goal.at.returns-in-Break c).In-loop-read in
     rw c.report.ensures
-    (stops (samples (goal.at.returns-in-Stop c).At-loop-read) (tolerance (goal.at.returns-in-Stop c).At-loop-read) (restart (goal.at.returns-in-Stop c).At-loop-read) (lent (goal.at.returns-in-Stop c).At-loop-read) _ _ c.requires (held (goal.at.returns-in-Stop c).At-loop-read) _ _ _ _ _ (going (goal.at.returns-in-Stop c).At-loop-read) (remains (goal.at.returns-in-Stop c).In-loop-read)
-    _ (after (goal.at.returns-in-Stop c).After-advance-made) _ _ c.advance-made.ensures _ _ c.in-Stop.is)
+    (stops (samples p) (tolerance p) (restart p) (lent p) _ _ c.requires (held p)
+    _ _ _ _ _ (going p) (remains q)
+    _ (after (goal.at.returns-in-Break c).After-advance-made) _ _ c.advance-made.ensures _ _ (ap step_of c.in-Break.is))
 
 pub risen-low-requires : goal.risen-low-requires
 risen-low-requires c =
+    let p = (goal.at.risen-low-requires c).At-loop-read in
+    let q = (goal.at.risen-low-requires c).In-loop-read in
     rw c.loop-read.invariant.0
-    (known_after (samples (goal.at.risen-low-requires c).At-loop-read) (tolerance (goal.at.risen-low-requires c).At-loop-read) (restart (goal.at.risen-low-requires c).At-loop-read) (lent (goal.at.risen-low-requires c).At-loop-read) _ _ c.requires (held (goal.at.risen-low-requires c).At-loop-read) _ _ _ _ _ (going (goal.at.risen-low-requires c).At-loop-read) (remains (goal.at.risen-low-requires c).In-loop-read)
+    (known_after (samples p) (tolerance p) (restart p) (lent p) _ _ c.requires (held p)
+    _ _ _ _ _ (going p) (remains q)
     _ (after (goal.at.risen-low-requires c).After-advance-made) _ _ c.advance-made.ensures)
-
-pub overflow_add-read-in-loop-read : goal.overflow_add-read-in-loop-read
-overflow_add-read-in-loop-read c = omega (arith, few (goal.at.overflow_add-read-in-loop-read c).In-loop-read)
-
-pub loop-read-smaller : goal.loop-read-smaller
-loop-read-smaller c = omega (arith, c.loop-read-test.true)
 
 pub loop-read-preserved : goal.loop-read-preserved
 loop-read-preserved c =
+    let p = (goal.at.loop-read-preserved c).At-loop-read in
+    let q = (goal.at.loop-read-preserved c).In-loop-read in
+    let made = (goal.at.loop-read-preserved c).After-advance-made in
     let on =
-    goes (samples (goal.at.loop-read-preserved c).At-loop-read) (tolerance (goal.at.loop-read-preserved c).At-loop-read) (restart (goal.at.loop-read-preserved c).At-loop-read) (lent (goal.at.loop-read-preserved c).At-loop-read) _ _ c.requires (held (goal.at.loop-read-preserved c).At-loop-read) _ _ _ _ _ (going (goal.at.loop-read-preserved c).At-loop-read) (remains (goal.at.loop-read-preserved c).In-loop-read)
-    _ (after (goal.at.loop-read-preserved c).After-advance-made) _ _ c.advance-made.ensures in
-    (c.loop-read.invariant.0, c.loop-read.invariant.1, on _ _ c.in-More.is (rw c.loop-read.invariant.0 at c.risen-low.ensures) (same (goal.at.loop-read-preserved c).After-advance-made))
+    goes (samples p) (tolerance p) (restart p) (lent p) _ _ c.requires (held p)
+    _ _ _ _ _ (going p) (remains q)
+    _ (after made) _ _ c.advance-made.ensures in
+    let v = c.loop-read.invariant in
+    (v.0, v.1, on _ _ (ap step_of c.in-Continue.is) (rw v.0 at c.risen-low.ensures) (same made))
 
 pub shape_of-u : goal.shape_of-u
 shape_of-u c = (going (goal.at.shape_of-u c).At-loop-read).alike.us_same
@@ -153,5 +164,8 @@ shape_of-column c = (going (goal.at.shape_of-column c).At-loop-read).alike.colum
 
 pub returns : goal.returns
 returns c =
+    let p = (goal.at.returns c).At-loop-read in
     let over = rw c.loop-read.invariant.1 at c.loop-read-test.false in
-    rw c.report-2.ensures (ends (samples (goal.at.returns c).At-loop-read) (tolerance (goal.at.returns c).At-loop-read) (restart (goal.at.returns c).At-loop-read) (lent (goal.at.returns c).At-loop-read) _ _ c.requires (held (goal.at.returns c).At-loop-read) _ _ _ _ _ (going (goal.at.returns c).At-loop-read) over)
+    let all : c.loop-read.read ≡ c.steps_of-most.result = omega arith in
+    rw (c.report-2.ensures, ← all) (ends (samples p) (tolerance p) (restart p) (lent p) _ _ c.requires (held p)
+    _ _ _ _ _ (going p) over)

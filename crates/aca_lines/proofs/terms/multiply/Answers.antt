@@ -1,5 +1,5 @@
--- `aca_lines::terms::multiply` meets its contract. The loop keeps: the entries before c are multiplied. Assumes nothing.
-use mathlib.Core.Path.{refl, sym}
+-- `aca_lines::terms::multiply` meets its contract. The loop keeps: the entries before x are multiplied. Assumes nothing.
+use mathlib.Core.Path.{refl}
 use Prim.Native.Nat.{ℕ}
 use lib.Ieee.{Float, nan}
 use lib.ListN.{get_or}
@@ -13,20 +13,15 @@ use Rattle.aca_lines.proofs.terms.multiply.Goals as goal
 abbrev becomes : Start → (k : ℕ) → Float
 becomes c k = times (get_or c.args.line.now k nan) c.args.factor
 
-pub loop-c-init : goal.loop-c-init
-loop-c-init c = (refl, filling_none 0 _ (becomes c) _)
+pub loop-x-init : goal.loop-x-init
+loop-x-init c = filling_none 0 _ (becomes c) _
 
-pub loop-c-preserved : goal.loop-c-preserved
-loop-c-preserved c =
-    let v = c.loop-c.invariant in
+pub loop-x-preserved : goal.loop-x-preserved
+loop-x-preserved c =
+    let s = (goal.at.loop-x-preserved c).Start in
     let by = c.args.factor in
-    (v.0, changing_front _ (becomes (goal.at.loop-c-preserved c).Start) (λ x. times x by) _ _ _ nan _ v.1 c.loop-c-test.true (sym v.0) refl refl)
-
-pub shape_of-line : goal.shape_of-line
-shape_of-line c = c.loop-c.invariant.1.long
+    changing_front _ (becomes s) (λ x. times x by) _ _ _ nan _ c.loop-x.invariant c.loop-x-test.true refl refl refl
 
 pub returns : goal.returns
 unfolding multiplied
-returns c =
-    let v = c.loop-c.invariant in
-    rw v.0 at (filling_whole _ (becomes (goal.at.returns c).Start) _ _ _ v.1 c.loop-c-test.false (sym v.0))
+returns c = filling_whole _ (becomes (goal.at.returns c).Start) _ _ _ c.loop-x.invariant c.loop-x-test.false refl

@@ -48,8 +48,9 @@ module _ (c : In-loop-l) where
 
 pub loop-l-init : goal.loop-l-init
 loop-l-init c =
-    let none = adding_none 0 (length (lent (goal.at.loop-l-init c).After-fill_with)) (term (goal.at.loop-l-init c).After-fill_with) (lent (goal.at.loop-l-init c).After-fill_with) (omega arith) _ c.fill_with.ensures in
-    (sym (zeros_long (goal.at.loop-l-init c).After-fill_with), omega arith, refl, none)
+    let p = (goal.at.loop-l-init c).After-fill_with in
+    let none = adding_none 0 (length (lent p)) (term p) (lent p) (omega arith) _ c.fill_with.ensures in
+    (sym (zeros_long p), omega arith, refl, none)
 
 pub overflow_mul-l : goal.overflow_mul-l
 overflow_mul-l c = rw c.loop-l.invariant.0 (omega (arith, c.well_formed, terms_in (goal.at.overflow_mul-l c).In-loop-l))
@@ -73,16 +74,18 @@ add_scaled-requires c =
 
 pub loop-l-preserved : goal.loop-l-preserved
 loop-l-preserved c =
+    let p = (goal.at.loop-l-preserved c).After-fill_with in
     let v = c.loop-l.invariant in
     let s = c.add_scaled in
-    let n = length (lent (goal.at.loop-l-preserved c).After-fill_with) in
-    let fits : 0 + n ≤ length (zeros (goal.at.loop-l-preserved c).After-fill_with) = omega (arith, zeros_long (goal.at.loop-l-preserved c).After-fill_with) in
-    let next = adding_next 0 n (term (goal.at.loop-l-preserved c).After-fill_with) _ fits c.loop-l.line c.loop-l.l _ v.3 (λ i b. refl) in
+    let n = length (lent p) in
+    let fits : 0 + n ≤ length (zeros p) = omega (arith, zeros_long p) in
+    let next = adding_next 0 n (term p) _ fits c.loop-l.line c.loop-l.l _ v.3 (λ i b. refl) in
     (v.0, omega arith, s.auto.column ∙ v.2, s.ensures ∙ next)
 
 pub returns : goal.returns
 returns c =
+    let p = (goal.at.returns c).After-fill_with in
     let k = c.args.k in
     let all : c.loop-l.l ≡ k = omega (arith, c.loop-l-test.false, c.loop-l.invariant.1) in
-    adding_all 0 (length (lent (goal.at.returns c).After-fill_with)) (term (goal.at.returns c).After-fill_with) (lent (goal.at.returns c).After-fill_with) (omega arith) _ _ k c.fill_with.ensures (rw all at c.loop-l.invariant.3)
-    ∙ fill_all (length (lent (goal.at.returns c).After-fill_with)) (λ i. sums k (term (goal.at.returns c).After-fill_with i)) (lent (goal.at.returns c).After-fill_with) refl
+    adding_all 0 (length (lent p)) (term p) (lent p) (omega arith) _ _ k c.fill_with.ensures (rw all at c.loop-l.invariant.3)
+    ∙ fill_all (length (lent p)) (λ i. sums k (term p i)) (lent p) refl

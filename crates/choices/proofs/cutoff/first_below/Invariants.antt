@@ -1,14 +1,10 @@
 -- `choices::cutoff::first_below` meets its contract. The loop keeps: the squares from place `at` on are summed, and `at` is the first place
 -- found from there on. Assumes nothing.
 use mathlib.Core.Path.{◌≡◌}
-use Prim.Native.Nat.{◌≤◌}
-use lib.ListN.{length, drop}
+use lib.ListN.{drop}
 use Rattle.choices.specs.Cutoff.{squares, first_below}
 use Rattle.choices.proofs.cutoff.first_below.Given as goal
 
 abbrev pub invariant-loop-at : goal.invariant-loop-at
 invariant-loop-at l =
-    (l.at ≤ length l.values) × (l.sum ≡ squares (drop l.at l.values)) × (first_below l.bound (drop l.at l.values) ≡ 0)
-
-abbrev pub decreases-loop-at : goal.decreases-loop-at
-decreases-loop-at l = l.at
+    (l.sum ≡ squares (drop l.at l.values)) × (first_below l.bound (drop l.at l.values) ≡ 0)

@@ -1,8 +1,0 @@
--- `aca_pivots::flags::all_on` meets its contract. Assumes nothing.
-use mathlib.Core.Path.{refl}
-use Rattle.aca_pivots.specs.Flags.{all_on}
-use Rattle.aca_pivots.proofs.flags.all_on.Goals as goal
-
-pub returns : goal.returns
-unfolding all_on
-returns c = refl

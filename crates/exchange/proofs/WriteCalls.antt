@@ -19,8 +19,6 @@ use Rattle.exchange_format.specs.Reading.{Outcome, refuse, give, then, one_more}
 use Rattle.exchange_format.specs.Writing.{unlines, integer, file_lines, written, whole_of, wholes, fitting_text, writing}
 use Rattle.exchange_format.specs.Calls.{size_from, written_of, write_call}
 use Rattle.exchange_writing.specs.Working.{spell, spelled, head_text, measured}
-use Rattle.exchange_writing.specs.declared.Total.{Total}
-use Rattle.exchange_writing.specs.declared.Total.TheVariants.{Long, Fault}
 use Rattle.exchange_writing.proofs.Spellings.{spelled_size}
 
 -- THE WHOLE TEXT
@@ -76,12 +74,12 @@ module _ (r c : ℕ) (b : List Float) (text : List ℕ) where
     unfolding write_call writing
     block_other d = rw (le-leb r most_entries h, le-leb c most_entries k, ne_eqb (length b) (r * c) d)
 
-    module _ (l : length b ≡ r * c) (f : Total) (e : f ≡ measured (wholes 3 b)) where
-      pub block_fault : (n j : ℕ) → f ≡ Fault n j → ((n, j, none), text) ≡ write_call r c b text
+    module _ (l : length b ≡ r * c) where
+      pub block_fault : (n j : ℕ) → refuse n j ≡ measured (wholes 3 b) → ((n, j, none), text) ≡ write_call r c b text
       unfolding write_call writing
-      block_fault n j p = rw (le-leb r most_entries h, le-leb c most_entries k, eq-eqb (length b) (r * c) l) (go (wholes 3 b) (sym p ∙ e))
+      block_fault n j e = rw (le-leb r most_entries h, le-leb c most_entries k, eq-eqb (length b) (r * c) l) (go (wholes 3 b) e)
         where
-          go : (o : Outcome (List ℤ)) → Fault n j ≡ measured o →
+          go : (o : Outcome (List ℤ)) → refuse n j ≡ measured o →
               ((n, j, none), text) ≡ written_of text
               (then o (λ xs. fitting_text (length text) (written (record { sizes = size_from r c; whole = xs }))))
           go (refuse m i) q =
@@ -90,32 +88,33 @@ module _ (r c : ℕ) (b : List Float) (text : List ℕ) where
               rw (a, z)
           go (give xs) q = absurd (let z : ◌≡◌ {A = ℕ} 0 1 = cc in omega arith)
 
-      record Good : Type 0 where
-        whole : List ℤ
-        is : wholes 3 b ≡ give whole
+      module _ (m : ℕ) (e : give m ≡ measured (wholes 3 b)) where
+        record Good : Type 0 where
+          whole : List ℤ
+          is : wholes 3 b ≡ give whole
 
-      good : (m : ℕ) → f ≡ Long m → (o : Outcome (List ℤ)) → wholes 3 b ≡ o → f ≡ measured o → Good
-      good m p (refuse n i) s q = absurd (let z : ◌≡◌ {A = ℕ} 0 1 = cc in omega arith)
-      good m p (give xs) s q = record { whole = xs; is = s }
+        good : (o : Outcome (List ℤ)) → wholes 3 b ≡ o → give m ≡ measured o → Good
+        good (refuse n i) s q = absurd (let z : ◌≡◌ {A = ℕ} 0 1 = cc in omega arith)
+        good (give xs) s q = record { whole = xs; is = s }
 
-      -- how long the lines are together
-      pub block_long : (m : ℕ) → f ≡ Long m → (m ≡ length (spelled b)) × (m ≤ 22 * length b)
-      block_long m p =
-          let g = good m p (wholes 3 b) refl e in
-          let w : Long m ≡ Long (length (unlines (map integer g.whole))) = sym p ∙ e ∙ ap measured g.is in
-          let same : m ≡ length (unlines (map integer g.whole)) = cc in
-          let long : m ≡ length (spelled b) = same ∙ sym (ap length (lines_of 3 b g.whole g.is)) in
-          (long, omega (arith, spelled_size b))
+        -- how long the lines are together
+        pub block_long : (m ≡ length (spelled b)) × (m ≤ 22 * length b)
+        block_long =
+            let g = good (wholes 3 b) refl e in
+            let w : give m ≡ give (length (unlines (map integer g.whole))) = e ∙ ap measured g.is in
+            let same : m ≡ length (unlines (map integer g.whole)) = cc in
+            let long : m ≡ length (spelled b) = same ∙ sym (ap length (lines_of 3 b g.whole g.is)) in
+            (long, omega (arith, spelled_size b))
 
-      pub block_good : (m : ℕ) → f ≡ Long m → (told : (ℕ × ℕ × Option ℕ) × List ℕ) →
-          told ≡ written_of text (fitting_text (length text) (head_text r c ++ spelled b)) → told ≡ write_call r c b text
-      unfolding write_call writing
-      block_good m p told w =
-          let g = good m p (wholes 3 b) refl e in
-          rw (
-            le-leb r most_entries h,
-            le-leb c most_entries k,
-            eq-eqb (length b) (r * c) l,
-            g.is,
-            written_text (size_from r c) b g.whole g.is,
-          ) w
+        pub block_good : (told : (ℕ × ℕ × Option ℕ) × List ℕ) →
+            told ≡ written_of text (fitting_text (length text) (head_text r c ++ spelled b)) → told ≡ write_call r c b text
+        unfolding write_call writing
+        block_good told w =
+            let g = good (wholes 3 b) refl e in
+            rw (
+              le-leb r most_entries h,
+              le-leb c most_entries k,
+              eq-eqb (length b) (r * c) l,
+              g.is,
+              written_text (size_from r c) b g.whole g.is,
+            ) w

@@ -5,11 +5,18 @@ ghost use Rattle.exchange_format.specs.Calls.{written_of, write_call};
 ghost use Rattle.exchange_writing.specs.Working.{spelled, head_text};
 ghost use Rattle.exchange.specs.Told.{told_written};
 
-use crate::Written;
-use exchange_writing::Total;
+use crate::Fault;
+use common::Refusal;
+use text::Line;
 
 // All lines, where they fit; those of the entries are so long together.
-fn write_lines(rows: usize, columns: usize, block: &[f64], long: usize, text: &mut [u8]) -> Written
+fn write_lines(
+    rows: usize,
+    columns: usize,
+    block: &[f64],
+    long: usize,
+    text: &mut [u8],
+) -> Result<usize, Fault>
     requires { (long ≡ length (spelled block.now)) × (long ≤ 23068672) }
     ensures { (told_written result, text.new) ≡ written_of text.old
         (fitting_text (length text.old) (head_text rows columns ++ spelled block.now)) }
@@ -18,39 +25,38 @@ fn write_lines(rows: usize, columns: usize, block: &[f64], long: usize, text: &m
         + exchange_writing::digit_count(columns as u64)
         + 46;
     if text.len() < head + long {
-        return Written::Refused {
-            number: common::WRONG_LENGTH,
+        return Err(Fault {
+            refusal: Refusal::WrongLength,
             line: 0,
-        };
+        });
     }
-    let after = exchange_writing::put_head(text, rows, columns);
-    Written::Bytes(exchange_writing::put_entries(text, after, block))
+    let mut line = Line::new(text);
+    exchange_writing::put_head(&mut line, rows, columns);
+    exchange_writing::put_entries(&mut line, block);
+    Ok(line.to)
 }
 
 // Writes a block into a text that is lent, whose bytes past what is written stay.
-pub fn write_block(rows: usize, columns: usize, block: &[f64], text: &mut [u8]) -> Written
+pub fn write_block(
+    rows: usize,
+    columns: usize,
+    block: &[f64],
+    text: &mut [u8],
+) -> Result<usize, Fault>
     ensures { (told_written result, text.new) ≡ write_call rows columns block.now text.old }
 {
-    if common::MOST_ENTRIES < rows {
-        return Written::Refused {
-            number: common::NO_SIZE,
+    if common::MOST_ENTRIES < rows || common::MOST_ENTRIES < columns {
+        return Err(Fault {
+            refusal: Refusal::NoSize,
             line: 2,
-        };
-    }
-    if common::MOST_ENTRIES < columns {
-        return Written::Refused {
-            number: common::NO_SIZE,
-            line: 2,
-        };
+        });
     }
     if block.len() != rows * columns {
-        return Written::Refused {
-            number: common::WRONG_LENGTH,
+        return Err(Fault {
+            refusal: Refusal::WrongLength,
             line: 0,
-        };
+        });
     }
-    match exchange_writing::measure(block) {
-        Total::Fault { number, line } => Written::Refused { number, line },
-        Total::Long(long) => write_lines(rows, columns, block, long, text),
-    }
+    let long = exchange_writing::measure(block)?;
+    write_lines(rows, columns, block, long, text)
 }

@@ -15,7 +15,6 @@ use Rattle.common.specs.Refusals.{wrong_count, bad_entry}
 use Rattle.exchange_format.specs.Lines.{lines}
 use Rattle.exchange_format.specs.Words.{entry}
 use Rattle.exchange_format.specs.Reading.{Outcome, refuse, give, then, one_more, entries, float}
-use Rattle.exchange_entries.specs.declared.Check.TheVariants.{Fine, Fault}
 use Rattle.exchange_entries.specs.Working.{line_at, is_fit, Past, value_at, checked}
 use Rattle.common.proofs.Cases.{by_lt}
 use Rattle.exchange_entries.proofs.Scans.{line_end}
@@ -40,23 +39,23 @@ checked_more x (refuse n k) = refl
 checked_more x (give xs) = refl
 
 module _ (k : ℕ) (text : List ℕ) (at : ℕ) where
-  pub entry_missing : (left : ℕ) → 0 < left → length text ≤ at → Fault wrong_count k ≡ checked (entries k left (lines (drop at text)))
+  pub entry_missing : (left : ℕ) → 0 < left → length text ≤ at → refuse wrong_count k ≡ checked (entries k left (lines (drop at text)))
   unfolding entries
   entry_missing zero l h = absurd (not-suc-le-zero l)
   entry_missing (suc n) l h = rw (lines_none text at h)
 
-  pub entries_over : (left : ℕ) → left ≤ 0 → at < length text → Fault wrong_count k ≡ checked (entries k left (lines (drop at text)))
+  pub entries_over : (left : ℕ) → left ≤ 0 → at < length text → refuse wrong_count k ≡ checked (entries k left (lines (drop at text)))
   unfolding entries
   entries_over zero l h = rw (lines_some text at h)
   entries_over (suc n) l h = absurd (not-suc-le-zero l)
 
-  pub entries_done : (left : ℕ) → left ≤ 0 → length text ≤ at → Fine ≡ checked (entries k left (lines (drop at text)))
+  pub entries_done : (left : ℕ) → left ≤ 0 → length text ≤ at → give tt ≡ checked (entries k left (lines (drop at text)))
   unfolding entries
   entries_done zero l h = rw (lines_none text at h)
   entries_done (suc n) l h = absurd (not-suc-le-zero l)
 
   module _ (h : at < length text) where
-    pub entry_bad : (left : ℕ) → 0 < left → entry (line_at text at) ≡ none → Fault bad_entry k ≡ checked
+    pub entry_bad : (left : ℕ) → 0 < left → entry (line_at text at) ≡ none → refuse bad_entry k ≡ checked
         (entries k left (lines (drop at text)))
     unfolding entries
     entry_bad zero l e = absurd (not-suc-le-zero l)

@@ -10,8 +10,8 @@ use borrow.Author.Tests.{eq-eqb, ne_eqb}
 use Rattle.common.proofs.Cases.{by_bool, by_lt, by_eq, not_both, inside_low, inside_high}
 use Rattle.exchange_format.specs.Lines.{newline, before, from}
 use Rattle.exchange_format.specs.Words.{is_digit, most_size, numeral, signed, entry}
-use Rattle.exchange_entries.specs.declared.entries.Scan.{Scan}
-use Rattle.exchange_entries.specs.declared.entries.Scan.TheVariants.{Next, Bad}
+use Rattle.std.specs.Prelude.{Some, None}
+use Rattle.std.specs.Prelude.{Option as Answer}
 use Rattle.exchange_entries.specs.declared.entries.Number.{Number}
 use Rattle.exchange_entries.specs.declared.entries.Entry.{Entry}
 use Rattle.exchange_entries.specs.Working.{line_at, is_fit, Past, Scans, Reads, signed_float, value_of, Valued}
@@ -174,10 +174,10 @@ fit_signed : (s : Bool) (o : Option ℕ) → is_fit (signed s o) ≡ is_fit o
 fit_signed s none = refl
 fit_signed s (some n) = refl
 
-scan_signed : {text : List ℕ} {at next : ℕ} (s : Bool) (o : Option ℕ) (r : Scan) → ((n : ℕ) → Past text next n → Past text at n) →
+scan_signed : {text : List ℕ} {at next : ℕ} (s : Bool) (o : Option ℕ) (r : Answer ℕ) → ((n : ℕ) → Past text next n → Past text at n) →
     Scans text next o r → Scans text at (signed s o) r
-scan_signed s o (Next n) f h = (fit_signed s o ∙ h.0, f n h.1)
-scan_signed s o Bad f h = ap (signed s) h
+scan_signed s o (Some n) f h = (fit_signed s o ∙ h.0, f n h.1)
+scan_signed s o None f h = ap (signed s) h
 
 module _ (text : List ℕ) (at : ℕ) (in-text : at < length text) where
   module _ (minus : get_or text at 0 ≡ 45) where
@@ -195,7 +195,8 @@ module _ (text : List ℕ) (at : ℕ) (in-text : at < length text) where
         rw (step text at in-text, ne_eqb (get_or text at 0) newline no_newline) in
         record { within = h.within; further = omega (arith, h.further); rest = h.rest ∙ sym (ap (drop 1) same) }
 
-    pub scan_minus : (r : Scan) → Scans text (at + 1) (numeral most_size (line_at text (at + 1))) r → Scans text at (entry (line_at text at)) r
+    pub scan_minus : (r : Answer ℕ) → Scans text (at + 1) (numeral most_size (line_at text (at + 1))) r →
+        Scans text at (entry (line_at text at)) r
     scan_minus r h = rw minus_line (scan_signed true (numeral most_size (line_at text (at + 1))) r past_minus h)
 
     pub fit_minus : is_fit (entry (line_at text at)) ≡ true → is_fit (numeral most_size (line_at text (at + 1))) ≡ true
@@ -218,7 +219,7 @@ module _ (text : List ℕ) (at : ℕ) (in-text : at < length text) where
         (λ e _. rw (line_newline text at in-text e, numeral_none most_size [] refl))
         (λ e _. rw (line_more text at in-text e, ne_eqb (get_or text at 0) 45 plain))
 
-    pub scan_plain : (r : Scan) → Scans text at (numeral most_size (line_at text at)) r → Scans text at (entry (line_at text at)) r
+    pub scan_plain : (r : Answer ℕ) → Scans text at (numeral most_size (line_at text at)) r → Scans text at (entry (line_at text at)) r
     scan_plain r h = rw plain_line (scan_signed false (numeral most_size (line_at text at)) r (λ n p. p) h)
 
     pub fit_plain : is_fit (entry (line_at text at)) ≡ true → is_fit (numeral most_size (line_at text at)) ≡ true

@@ -1,16 +1,14 @@
 -- What the code on the entries answers and leaves. No public call's contract cites it.
 use Rattle.std.specs.Prelude.{◌≡◌, Bool, true, false, cond, List, [], ℕ, ◌<◌, ◌≤◌, ℤ, pos, neg_ℤ, Float, length, drop, get_or}
+use Rattle.std.specs.Prelude.{Some, None}
+use Rattle.std.specs.Prelude.{Option as Answer}
 use Rattle.std.proofs.Math.Option.{Option, some, none}
 use Rattle.common.specs.Floats.{zero₆₄}
 use Rattle.exchange_format.specs.Lines.{newline, before, from}
 use Rattle.exchange_format.specs.Words.{entry}
 use Rattle.exchange_format.specs.Reading.{Outcome, refuse, give, float}
-use Rattle.exchange_entries.specs.declared.entries.Scan.{Scan}
-use Rattle.exchange_entries.specs.declared.entries.Scan.TheVariants.{Next, Bad}
 use Rattle.exchange_entries.specs.declared.entries.Number.{Number}
 use Rattle.exchange_entries.specs.declared.entries.Entry.{Entry}
-use Rattle.exchange_entries.specs.declared.Check.{Check}
-use Rattle.exchange_entries.specs.declared.Check.TheVariants as check
 
 -- AN ENTRY'S LINE
 
@@ -30,9 +28,9 @@ module _ {A : Type 0} where
   is_fit (some x) = true
 
   -- a line that was tested: it is none of these, or it is one and the next begins there
-  abbrev pub Scans : (text : List ℕ) (at : ℕ) → Option A → Scan → Type 0
-  Scans text at o (Next n) = (is_fit o ≡ true) × Past text at n
-  Scans text at o Bad = o ≡ none
+  abbrev pub Scans : (text : List ℕ) (at : ℕ) → Option A → Answer ℕ → Type 0
+  Scans text at o (Some n) = (is_fit o ≡ true) × Past text at n
+  Scans text at o None = o ≡ none
 
 pub record Reads (text : List ℕ) (at : ℕ) (o : Option ℕ) (r : Number) : Type 0 where
   pub number : o ≡ some r.size
@@ -53,6 +51,7 @@ pub record Valued (text : List ℕ) (at : ℕ) (r : Entry) : Type 0 where
   pub value : r.value ≡ value_of (entry (line_at text at))
   pub past : Past text at r.next
 
-abbrev pub checked : {A : Type 0} → Outcome A → Check
-checked (refuse n k) = check.Fault n k
-checked (give x) = check.Fine
+-- all entries are fine; or the first fault
+abbrev pub checked : {A : Type 0} → Outcome A → Outcome (Unit {0})
+checked (refuse n k) = refuse n k
+checked (give x) = give tt

@@ -3,65 +3,55 @@ ghost use Rattle.std.specs.Prelude.{◌≡◌, true, ◌≤◌, ◌<◌, length}
 ghost use Rattle.exchange_format.specs.Words.{most_size, numeral, entry};
 ghost use Rattle.exchange_entries.specs.Working.{line_at, is_fit, signed_float, Scans, Reads, Valued};
 
-const NEWLINE: u8 = 10;
-
 // 2^53: every whole number up to it is a float.
 const MOST_SIZE: usize = 9007199254740992;
 
-// Where the next line begins; or the line is no entry.
-#[derive(Drop)]
-pub(crate) enum Scan {
-    Next(usize),
-    Bad,
-}
-
 // A number, and where the next line begins.
-#[derive(Drop)]
+#[derive(Clone, Copy)]
 struct Number {
     size: usize,
     next: usize,
 }
 
 // An entry's float, and where the next line begins.
-#[derive(Drop)]
+#[derive(Clone, Copy)]
 pub(crate) struct Entry {
     pub value: f64,
     pub next: usize,
 }
 
-// Digits from place `from` to the line's end, of a number up to 2^53. A larger one is known at once, so nothing overflows.
-fn scan_digits(text: &[u8], from: usize) -> Scan
+// Digits from place `from` to the line's end, of a number up to 2^53: where the next line begins. A larger number is known at once, so
+// nothing overflows.
+fn scan_digits(text: &[u8], from: usize) -> Option<usize>
     requires { from ≤ length text.now }
     ensures { Scans text.now from (numeral most_size (line_at text.now from)) result }
 {
     if text.len() <= from {
-        return Scan::Bad;
+        return None;
     }
     let first = text[from];
-    if !exchange_lines::is_digit(first) {
-        return Scan::Bad;
+    if !first.is_ascii_digit() {
+        return None;
     }
-    let mut n = first as usize - 48;
-    let mut i = from + 1;
-    while i < text.len() {
+    let mut n = (first - b'0') as usize;
+    for i in from + 1..text.len() {
         let b = text[i];
-        if !exchange_lines::is_digit(b) {
-            if b == NEWLINE {
-                return Scan::Next(i + 1);
+        if !b.is_ascii_digit() {
+            if b == b'\n' {
+                return Some(i + 1);
             }
-            return Scan::Bad;
+            return None;
         }
-        n = n * 10 + (b as usize - 48);
+        n = n * 10 + (b - b'0') as usize;
         if MOST_SIZE < n {
-            return Scan::Bad;
+            return None;
         }
-        i += 1;
     }
-    Scan::Next(i)
+    Some(text.len())
 }
 
-// Tests the line that begins at place `at`: an optional minus and digits.
-pub(crate) fn scan_entry(text: &[u8], at: usize) -> Scan
+// Tests the line that begins at place `at`, an optional minus and digits: where the next begins, if it is an entry.
+pub(crate) fn scan_entry(text: &[u8], at: usize) -> Option<usize>
     requires { at < length text.now }
     ensures { Scans text.now at (entry (line_at text.now at)) result }
 {
@@ -77,20 +67,21 @@ fn read_digits(text: &[u8], from: usize) -> Number
     requires { (from ≤ length text.now) × (is_fit (numeral most_size (line_at text.now from)) ≡ true) }
     ensures { Reads text.now from (numeral most_size (line_at text.now from)) result }
 {
-    let mut n = text[from] as usize - 48;
-    let mut i = from + 1;
-    while i < text.len() {
+    let mut n = (text[from] - b'0') as usize;
+    for i in from + 1..text.len() {
         let b = text[i];
-        if b == NEWLINE {
+        if b == b'\n' {
             return Number {
                 size: n,
                 next: i + 1,
             };
         }
-        n = n * 10 + (b as usize - 48);
-        i += 1;
+        n = n * 10 + (b - b'0') as usize;
     }
-    Number { size: n, next: i }
+    Number {
+        size: n,
+        next: text.len(),
+    }
 }
 
 // A whole number as a float: nothing rounds, and since 0 has no sign before it is a float, there is one zero.

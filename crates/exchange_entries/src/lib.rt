@@ -3,59 +3,47 @@
 
 ghost use Rattle.std.specs.Prelude.{◌≡◌, true, [], ℕ, ◌≤◌, ◌<◌, length, drop, get_or};
 ghost use Rattle.common.specs.Lists.{tabulate};
+ghost use Rattle.exchange_format.specs.Faults.{outcome};
 ghost use Rattle.exchange_format.specs.Lines.{lines};
 ghost use Rattle.exchange_format.specs.Words.{entry};
 ghost use Rattle.exchange_format.specs.Reading.{entries};
 ghost use Rattle.exchange_lines.specs.Working.{Stands};
 ghost use Rattle.exchange_entries.specs.Working.{is_fit, value_at, checked};
 
+use common::Refusal;
+use exchange_format::Fault;
 use exchange_lines::Cursor;
 
 mod entries;
 
-// All entries are fine; or the number and line of the first fault.
-#[derive(Drop)]
-pub enum Check {
-    Fine,
-    Fault { number: u8, line: usize },
-}
-
 // The first fault among so many entries, one a line.
-pub fn check_entries(text: &[u8], from: Cursor, count: usize) -> Check
+pub fn check_entries(text: &[u8], from: Cursor, count: usize) -> Result<(), Fault>
     requires { Stands text.now from }
-    ensures { result ≡ checked (entries from.line count (lines (drop from.at text.now))) }
+    ensures { outcome result ≡ checked (entries from.line count (lines (drop from.at text.now))) }
 {
     let mut at = from.at;
-    let mut line = from.line;
-    let mut left = count;
-    while 0 < left {
+    for i in 0..count {
         if text.len() <= at {
-            return Check::Fault {
-                number: common::WRONG_COUNT,
-                line,
-            };
+            return Err(Fault {
+                refusal: Refusal::WrongCount,
+                line: from.line + i,
+            });
         }
-        match entries::scan_entry(text, at) {
-            entries::Scan::Bad => {
-                return Check::Fault {
-                    number: common::BAD_ENTRY,
-                    line,
-                };
-            }
-            entries::Scan::Next(next) => {
-                at = next;
-                line += 1;
-                left -= 1;
-            }
-        }
+        let Some(next) = entries::scan_entry(text, at) else {
+            return Err(Fault {
+                refusal: Refusal::BadEntry,
+                line: from.line + i,
+            });
+        };
+        at = next;
     }
     if at < text.len() {
-        return Check::Fault {
-            number: common::WRONG_COUNT,
-            line,
-        };
+        return Err(Fault {
+            refusal: Refusal::WrongCount,
+            line: from.line + count,
+        });
     }
-    Check::Fine
+    Ok(())
 }
 
 // The value of a line in each place of the block.
@@ -65,11 +53,9 @@ pub fn fill_block(text: &[u8], from: usize, block: &mut [f64])
     ensures { block.new ≡ tabulate (length block.old) (value_at (lines (drop from text.now))) }
 {
     let mut at = from;
-    let mut i = 0;
-    while i < block.len() {
+    for place in block.iter_mut() {
         let entry = entries::read_entry(text, at);
-        block[i] = entry.value;
+        *place = entry.value;
         at = entry.next;
-        i += 1;
     }
 }

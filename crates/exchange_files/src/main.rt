@@ -2,12 +2,12 @@
 // number and line. A file that cannot be opened is named on standard error.
 #![tactic(auto)]
 
-ghost use Rattle.std.specs.Prelude.{◌≤◌, length};
+ghost use Rattle.std.specs.Prelude.{◌≤◌};
 
-use exchange::{Sizes, Written};
+use exchange::{Fault, Sizes};
 use std::env::Env;
 use std::fs::File;
-use std::io::{Error, Read, Write};
+use std::io::{Error, Write};
 
 // Room for a file, and for the text of a block that was read from one.
 const ROOM: usize = 2048;
@@ -28,59 +28,36 @@ fn write_name(rt: &HostRuntime, path: &[u8]) {
     say(rt, b":\n");
 }
 
-fn write_refusal(rt: &HostRuntime, number: u8, line: usize) {
-    let mut words = [0u8; 64];
-    let refused = text::put(&mut words, 0, b"refused with");
-    let numbered = text::put_next(&mut words, refused, number as u64);
-    let at = text::put(&mut words, numbered, b" at line");
-    let lined = text::put_next(&mut words, at, line as u64);
-    let end = text::end_line(&mut words, lined);
-    if end <= 64 {
-        say(rt, &words[..end]);
-    }
-}
-
-fn write_again(rt: &HostRuntime, rows: usize, columns: usize, block: &[f64]) {
-    let mut bytes = [0u8; ROOM];
-    match exchange::write_block(rows, columns, block, &mut bytes) {
-        Written::Refused { number, line } => write_refusal(rt, number, line),
-        Written::Bytes(count) => {
-            if count <= ROOM {
-                say(rt, &bytes[..count]);
-            }
-        }
-    }
-}
-
-fn read_into(rt: &HostRuntime, bytes: &[u8], block: &mut [f64]) {
-    match exchange::read_block(bytes, block) {
-        Sizes::Refused { number, line } => write_refusal(rt, number, line),
-        Sizes::Found { rows, columns } => write_again(rt, rows, columns, block),
-    }
-}
-
 // How much of our room a block takes. One that is larger is lent none of it, and refused with 7.
-fn room_for(rows: usize, columns: usize) -> usize
+fn room_for(sizes: Sizes) -> usize
     ensures { result ≤ 144 }
 {
-    if rows <= MOST {
-        if columns <= MOST {
-            return rows * columns;
-        }
+    if sizes.rows <= MOST && sizes.columns <= MOST {
+        sizes.rows * sizes.columns
+    } else {
+        0
     }
-    0
 }
 
-fn read_sized(rt: &HostRuntime, bytes: &[u8], rows: usize, columns: usize) {
-    let mut block = [0.0; MOST * MOST];
-    let count = room_for(rows, columns);
-    read_into(rt, bytes, &mut block[..count]);
+// Reads a text as a block, and writes the block anew.
+fn write_again(rt: &HostRuntime, text: &[u8]) -> Result<(), Fault> {
+    let count = room_for(exchange::block_size(text)?);
+    let mut room = [0.0; MOST * MOST];
+    let block = &mut room[..count];
+    let sizes = exchange::read_block(text, block)?;
+    let mut bytes = [0u8; ROOM];
+    let long = exchange::write_block(sizes.rows, sizes.columns, block, &mut bytes)?;
+    if long <= ROOM {
+        say(rt, &bytes[..long]);
+    }
+    Ok(())
 }
 
-fn read_text(rt: &HostRuntime, bytes: &[u8]) {
-    match exchange::block_size(bytes) {
-        Sizes::Refused { number, line } => write_refusal(rt, number, line),
-        Sizes::Found { rows, columns } => read_sized(rt, bytes, rows, columns),
+fn read_text(rt: &HostRuntime, text: &[u8]) {
+    if let Err(fault) = write_again(rt, text) {
+        let number = fault.refusal.number();
+        let line = fault.line;
+        let _ = println!(rt; "refused with {number} at line {line}");
     }
 }
 
@@ -111,26 +88,12 @@ fn open(rt: &HostRuntime, path: &[u8]) -> Result<File, Error> {
     }
 }
 
-// Reads until the room is full, the file ends or a read fails.
-fn fill(from: &mut File, bytes: &mut [u8]) -> usize
-    ensures { result ≤ length bytes.new }
-{
-    let mut n = 0;
-    while n < bytes.len() {
-        match from.read(&mut bytes[n..]) {
-            Err(_) | Ok(0) => return n,
-            Ok(more) => n += more,
-        }
-    }
-    n
-}
-
 fn read_file(rt: &HostRuntime, path: &[u8]) {
     let mut bytes = [0u8; ROOM];
     match open(rt, path) {
         Err(why) => fail(rt, path, why),
         Ok(mut file) => {
-            let count = fill(&mut file, &mut bytes);
+            let (count, _) = streams::fill(&mut file, &mut bytes);
             drop(file);
             write_name(rt, path);
             read_text(rt, &bytes[..count]);
@@ -151,8 +114,9 @@ fn read_argument(rt: &HostRuntime, number: usize) -> bool {
 
 // A proved loop has to end, so it counts up to more arguments than are given.
 fn main(rt: HostRuntime) {
-    let mut number = 1;
-    while number < 1000 && read_argument(&rt, number) {
-        number += 1;
+    for number in 1..1000 {
+        if !read_argument(&rt, number) {
+            break;
+        }
     }
 }

@@ -7,3 +7,4 @@ pub mod Exact
 pub mod Judged
 pub mod BackTrip
 pub mod Bounds
+pub mod Handed

@@ -1,5 +1,6 @@
 -- The three kinds of line of a Matrix Market array file, integer and general: the first line, the size line, an entry.
-use Rattle.std.specs.Prelude.{ℕ, ◌+◌, ◌-◌, ◌*◌, ◌^◌, Bool, true, false, cond, not, ◌&&◌, ◌||◌, List, [], ◌∷◌, map, eqb, leb, ℤ, pos, neg_ℤ, take, drop}
+use Rattle.std.specs.Prelude.{ℕ, ◌+◌, ◌-◌, ◌*◌, ◌^◌, Bool, true, false, cond, not, ◌&&◌, ◌||◌, List, [], ◌∷◌, map, eqb, leb, ℤ, pos, neg_ℤ}
+use Rattle.std.specs.Prelude.{take, drop}
 use Rattle.std.proofs.Math.Option.{Option, some, none}
 use Rattle.common.specs.Refusals.{most_entries}
 use Rattle.common.specs.Tests.{within}

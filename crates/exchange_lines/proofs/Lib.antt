@@ -1,5 +1,6 @@
 pub mod Scanning
 pub mod Running
+pub mod Parts
 pub mod Forms
-pub mod Files
 pub mod Determined
+pub mod Files

@@ -1,17 +1,15 @@
 -- A loop that reads a list from place i on: what each turn, and each way out, says of the part from i on. Assumes nothing.
 use mathlib.Core.Path.{◌≡◌, refl, sym, ap, ◌∙◌}
-use mathlib.Core.Bool.{true, false}
-use mathlib.Core.List.{List, [], ◌∷◌, map}
-use Prim.Native.Nat.{ℕ, suc, ◌+◌, ◌-◌, ◌<◌, ◌≤◌, zero-le}
+use mathlib.Core.List.{List, [], ◌∷◌}
+use Prim.Native.Nat.{ℕ, ◌+◌, ◌-◌, ◌<◌, ◌≤◌, zero-le}
 use native.Mathlib.Nat.{not-suc-le-zero}
 use native.Mathlib.Numerals.{add-one}
 use native.Mathlib.Omega.{arith}
 use lib.Dec.{eqb}
 use lib.ListN.{length, get_or, take, drop, length-drop, drop_of_length-le}
 use lib.Seq.{drop-cons, drop-drop}
-use borrow.Author.Tests.{eq-eqb, ne_eqb}
 use Rattle.common.proofs.Cases.{by_bool}
-use Rattle.exchange_format.specs.Lines.{newline, onto, lines, before, from, past, same}
+use Rattle.exchange_format.specs.Lines.{newline, onto, lines, before, from, same}
 use Rattle.exchange_lines.specs.Working.{Cut}
 
 pub step : (s : List ℕ) (i : ℕ) → i < length s → drop i s ≡ get_or s i 0 ∷ drop (i + 1) s
@@ -20,32 +18,7 @@ step s i h = rw (add-one, drop-cons s i 0)
 pub done : (s : List ℕ) (i : ℕ) → length s ≤ i → drop i s ≡ []
 done s i h = drop_of_length-le s h
 
--- BEFORE A BYTE, AND PAST IT
-
-module _ (b : ℕ) (s : List ℕ) (i : ℕ) where
-  pub before_end : length s ≤ i → length (before b (drop i s)) ≡ 0
-  unfolding before
-  before_end h = rw (done s i h)
-
-  pub before_hit : i < length s → get_or s i 0 ≡ b → length (before b (drop i s)) ≡ 0
-  unfolding before
-  before_hit h e = rw (step s i h, eq-eqb (get_or s i 0) b e)
-
-  pub before_miss : i < length s → (get_or s i 0 ≡ b → ⊥) → length (before b (drop i s)) ≡ suc (length (before b (drop (i + 1) s)))
-  unfolding before
-  before_miss h e = rw (step s i h, ne_eqb (get_or s i 0) b e)
-
-  pub past_end : length s ≤ i → past b (drop i s) ≡ drop i s
-  unfolding past
-  past_end h = rw (done s i h)
-
-  pub past_hit : i < length s → get_or s i 0 ≡ b → past b (drop i s) ≡ past b (drop (i + 1) s)
-  unfolding past
-  past_hit h e = rw (step s i h, eq-eqb (get_or s i 0) b e)
-
-  pub past_miss : i < length s → (get_or s i 0 ≡ b → ⊥) → past b (drop i s) ≡ drop i s
-  unfolding past
-  past_miss h e = rw (step s i h, ne_eqb (get_or s i 0) b e)
+-- BEFORE A BYTE, AND FROM IT ON
 
 -- the parts before and from a byte on are parts of the list
 pub before_most : (b : ℕ) (s : List ℕ) → length (before b s) ≤ length s
@@ -131,28 +104,3 @@ module _ (text : List ℕ) (at end : ℕ) (h : at ≤ length text) (e : end ≡ 
 
   pub cut_last : length text ≤ end → Cut text at end end
   cut_last l = cut end end_most (done text end l ∙ sym (done text (end + 1) (omega arith))) (ended l)
-
--- THE SAME BYTES
-
-module _ (f : ℕ → ℕ) where
-  pub same_lengths : (s t : List ℕ) → (length s ≡ length t → ⊥) → same (map f s) t ≡ false
-  unfolding same
-  same_lengths [] [] h = absurd (h refl)
-  same_lengths [] (y ∷ t) h = refl
-  same_lengths (x ∷ s) [] h = refl
-  same_lengths (x ∷ s) (y ∷ t) h =
-      by_bool (eqb (f x) y) (λ e. rw e (same_lengths s t (λ q. h (ap suc q)))) (λ e. rw e)
-
-  module _ (s t : List ℕ) (i : ℕ) where
-    pub same_hit : i < length s → i < length t → f (get_or s i 0) ≡ get_or t i 0 → same (map f (drop i s)) (drop i t) ≡ same
-        (map f (drop (i + 1) s)) (drop (i + 1) t)
-    unfolding same
-    same_hit h k e = rw (step s i h, step t i k, eq-eqb (f (get_or s i 0)) (get_or t i 0) e)
-
-    pub same_miss : i < length s → i < length t → (f (get_or s i 0) ≡ get_or t i 0 → ⊥) → same (map f (drop i s)) (drop i t) ≡ false
-    unfolding same
-    same_miss h k e = rw (step s i h, step t i k, ne_eqb (f (get_or s i 0)) (get_or t i 0) e)
-
-    pub same_end : length s ≤ i → length t ≤ i → same (map f (drop i s)) (drop i t) ≡ true
-    unfolding same
-    same_end h k = rw (done s i h, done t i k)

@@ -1,7 +1,8 @@
 -- Digits that are stored from the last on: what stands there after some of them, and at the end. Assumes nothing.
-use Rattle.std.proofs.Common.{◌≡◌, ℕ, suc, ◌+◌, ◌-◌, ◌/◌, ◌%◌, ◌^◌, ◌<◌, ◌≤◌, min, List, [], ◌∷◌, ◌++◌, length, set, sym, refl, ap, ◌∙◌, append_assoc, append-nil, add-one, arith, length-append, length-set}
+use Rattle.std.proofs.Common.{◌≡◌, ℕ, suc, ◌+◌, ◌-◌, ◌/◌, ◌%◌, ◌^◌, ◌<◌, ◌≤◌, List, [], ◌∷◌, ◌++◌, length, set, sym, refl, ap, ◌∙◌}
+use Rattle.std.proofs.Common.{append_assoc, append-nil, add-one, arith, length-append, length-set}
 use lib.Seq.{sets, set_comm}
-use Rattle.text.specs.Text.{decimal, put}
+use Rattle.text.specs.Text.{decimal}
 use Rattle.exchange_writing.proofs.Lengths.{decimal_last, decimal_one, decimal_tenth, decimal_least}
 
 -- a byte before a word may be stored before it or after it
@@ -59,10 +60,3 @@ module _ {n to rest i : ℕ} {before now : List ℕ} (h : Storing n to before no
       let word : decimal n ≡ (48 + rest) ∷ h.stored = h.whole ∙ ap (λ (d : List ℕ). d ++ h.stored) one in
       ap (λ (t : List ℕ). set t i (48 + rest)) h.made ∙ set_front h.stored before i (48 + rest) ∙
       ap (λ (k : ℕ). sets before k ((48 + rest) ∷ h.stored)) first ∙ ap (sets before to) (sym word)
-
--- a word that has room
-pub put_room : (to : ℕ) (w l after : List ℕ) (n : ℕ) → after ≡ sets l to w → n ≡ length w → to + n ≤ length l →
-    ◌≡◌ {A = ℕ × List ℕ} (to + n, after) (put to w l)
-put_room to w l after n e q f =
-    let place : to + min (length w) (length l - to) ≡ to + n = omega arith in
-    rw (place, e)

@@ -1,5 +1,7 @@
 -- Which floats are whole numbers, and which these are. Assumes nothing.
-use Rattle.std.proofs.Common.{◌≡◌, ℕ, zero, suc, ◌+◌, ◌-◌, ◌*◌, ◌/◌, ◌%◌, ◌^◌, ◌<◌, ◌≤◌, min, Bool, true, false, cond, not, ◌&&◌, T, eqb, ltb, leb, ℤ, pos, neg_ℤ, sym, refl, ap, ◌∙◌, subst, not-suc-le-zero, div-lt_iff_lt-mul, mul-pos, div-add-mod', zero-mul, arith, le→leb, eqb→eq, ltb→lt, leb→le, ltb-false, ltb-true, lt-ltb, ne_eqb}
+use Rattle.std.proofs.Common.{◌≡◌, ℕ, zero, suc, ◌+◌, ◌-◌, ◌*◌, ◌/◌, ◌%◌, ◌^◌, ◌<◌, ◌≤◌, min, Bool, true, false, cond, not, ◌&&◌, T, eqb}
+use Rattle.std.proofs.Common.{ltb, leb, ℤ, pos, neg_ℤ, sym, refl, ap, ◌∙◌, subst, not-suc-le-zero, div-lt_iff_lt-mul, mul-pos, div-add-mod'}
+use Rattle.std.proofs.Common.{zero-mul, arith, le→leb, eqb→eq, ltb→lt, leb→le, ltb-false, ltb-true, lt-ltb, ne_eqb}
 use mathlib.Core.Bool.{and-false}
 use mathlib.Core.Option.{Option, some, none}
 use lib.Ieee.{Float, nan, inf, fin, binary64, fits, up, down, neg, lt, whole, of_int, of_bits, to_bits, to_unsigned, to_signed, in_unsigned}
@@ -11,20 +13,9 @@ use lib.Ieee.Fits.{of_int-fits, and_l, and_r, up_pos, down_pos}
 use Rattle.common.proofs.Cases.{by_bool, by_eq}
 use Rattle.exchange_format.specs.Words.{signed}
 use Rattle.exchange_format.specs.Writing.{whole_of}
-use Rattle.exchange_writing.specs.Working.{size_in, size_answer, number_of}
-use Rattle.exchange_writing.specs.declared.wholes.Size.{Size}
-use Rattle.exchange_writing.specs.declared.wholes.Size.TheVariants.{Value, Nothing}
-use Rattle.exchange_writing.specs.declared.wholes.Whole.TheVariants.{Number, Not}
-
--- WHAT AN ANSWER SAYS
-
-nothing : (r : Size) (o : Option ℕ) → r ≡ Nothing → r ≡ size_answer o → o ≡ none
-nothing r none p q = refl
-nothing r (some n) p q = absurd (let z : ◌≡◌ {A = ℕ} 0 1 = cc in omega arith)
-
-found : (r : Size) (o : Option ℕ) (n : ℕ) → r ≡ Value n → r ≡ size_answer o → o ≡ some n
-found r none n p q = absurd (let z : ◌≡◌ {A = ℕ} 0 1 = cc in omega arith)
-found r (some m) n p q = let e : m ≡ n = cc in ap some e
+use Rattle.std.specs.Prelude.{Some, None}
+use Rattle.exchange_writing.specs.Working.{size_in, number_of}
+use Rattle.exchange_writing.specs.declared.wholes.Whole.{Whole}
 
 -- WITHOUT A MINUS
 
@@ -39,12 +30,12 @@ float_most n t = leb→le n (2 ^ 53) t
 pub cast_fits : (n : ℕ) → n ≤ 9007199254740992 → T (in_float binary64 (pos n))
 cast_fits n h = as_float n h
 
-refused : (x : Float) → (T (in_unsigned binary64 64 x) → ⊥) → Nothing ≡ size_answer (size_in x)
+refused : (x : Float) → (T (in_unsigned binary64 64 x) → ⊥) → none ≡ size_in x
 unfolding size_in
 refused x h = by_bool (in_unsigned binary64 64 x) (λ e. absurd (h (subst T (sym e) tt))) (λ e. rw e)
 
 module _ (x : Float) (n : ℕ) (f : T (fits binary64 x)) where
-  pub size_same : n ≤ 9007199254740992 → to_bits binary64 (of_int binary64 (pos n)) ≡ to_bits binary64 x → Value n ≡ size_answer (size_in x)
+  pub size_same : n ≤ 9007199254740992 → to_bits binary64 (of_int binary64 (pos n)) ≡ to_bits binary64 x → some n ≡ size_in x
   unfolding size_in
   size_same l e =
       let same : of_int binary64 (pos n) ≡ x =
@@ -56,13 +47,12 @@ module _ (x : Float) (n : ℕ) (f : T (fits binary64 x)) where
       let v : to_unsigned 64 x ≡ n = ap (to_unsigned 64) (sym same) ∙ back.1 in
       rw (t, v)
 
-  pub size_other : n ≡ to_unsigned 64 x → (to_bits binary64 (of_int binary64 (pos n)) ≡ to_bits binary64 x → ⊥) → Nothing ≡ size_answer
-      (size_in x)
+  pub size_other : n ≡ to_unsigned 64 x → (to_bits binary64 (of_int binary64 (pos n)) ≡ to_bits binary64 x → ⊥) → none ≡ size_in x
   size_other e d =
       refused x (λ t. d (ap (λ (k : ℕ). to_bits binary64 (of_int binary64 (pos k))) e
       ∙ ap (to_bits binary64) (Float-back_unsigned binary64 64 x f t).1))
 
-  pub size_large : n ≡ to_unsigned 64 x → 9007199254740992 < n → Nothing ≡ size_answer (size_in x)
+  pub size_large : n ≡ to_unsigned 64 x → 9007199254740992 < n → none ≡ size_in x
   size_large e l = refused x (λ t. let m = float_most (to_unsigned 64 x) (Float-back_unsigned binary64 64 x f t).0 in omega arith)
 
 outside_low : (x : Float) → lt (fin true 1 (pos 0)) x ≡ false → T (in_unsigned binary64 64 x) → ⊥
@@ -83,10 +73,10 @@ outside_high (fin false m g) e t =
     let c = ltb-false (m * up g * 1) (1 * 2 ^ 64 * down g) e in
     omega arith
 
-pub size_below : (x : Float) → lt (fin true 1 (pos 0)) x ≡ false → Nothing ≡ size_answer (size_in x)
+pub size_below : (x : Float) → lt (fin true 1 (pos 0)) x ≡ false → none ≡ size_in x
 size_below x e = refused x (outside_low x e)
 
-pub size_above : (x : Float) → lt x (fin false 1 (pos 64)) ≡ false → Nothing ≡ size_answer (size_in x)
+pub size_above : (x : Float) → lt x (fin false 1 (pos 64)) ≡ false → none ≡ size_in x
 size_above x e = refused x (outside_high x e)
 
 pub above_nan : (x : Float) → lt (fin true 1 (pos 0)) x ≡ true → T (not (is_nan x))
@@ -182,21 +172,19 @@ minus_size (fin true (suc m) g) n e q = go (in_unsigned binary64 64 (fin false (
         let s : min c (2 ^ 64 - 1) ≡ n = cc in
         omega arith
 
-module _ (x : Float) (r : Size) where
-  pub number_minus : lt x (fin false 0 (pos 0)) ≡ true → (n : ℕ) → r ≡ Value n → r ≡ size_answer (size_in (neg x)) →
-      Number true n ≡ number_of (whole_of x)
-  number_minus e n p q = go n (found r (size_in (neg x)) n p q)
-    where
-      go : (n : ℕ) → size_in (neg x) ≡ some n → Number true n ≡ number_of (whole_of x)
-      go zero s = absurd (not-suc-le-zero (minus_size x 0 e s))
-      go (suc k) s = rw (whole_minus x e, s)
+abbrev pub a_whole : Bool → ℕ → Whole
+a_whole s n = record { is_negative = s; size = n }
 
-  pub number_plain : lt x (fin false 0 (pos 0)) ≡ false → (n : ℕ) → r ≡ Value n → r ≡ size_answer (size_in x) → Number false n ≡ number_of
-      (whole_of x)
-  number_plain e n p q = rw (whole_plain x e, found r (size_in x) n p q)
+module _ (x : Float) where
+  pub number_minus : lt x (fin false 0 (pos 0)) ≡ true → (n : ℕ) → some n ≡ size_in (neg x) → Some (a_whole true n) ≡ number_of (whole_of x)
+  number_minus e zero s = absurd (not-suc-le-zero (minus_size x 0 e (sym s)))
+  number_minus e (suc k) s = rw (whole_minus x e, ← s)
 
-  pub number_minus_not : lt x (fin false 0 (pos 0)) ≡ true → r ≡ Nothing → r ≡ size_answer (size_in (neg x)) → Not ≡ number_of (whole_of x)
-  number_minus_not e p q = rw (whole_minus x e, nothing r (size_in (neg x)) p q)
+  pub number_plain : lt x (fin false 0 (pos 0)) ≡ false → (n : ℕ) → some n ≡ size_in x → Some (a_whole false n) ≡ number_of (whole_of x)
+  number_plain e n s = rw (whole_plain x e, ← s)
 
-  pub number_plain_not : lt x (fin false 0 (pos 0)) ≡ false → r ≡ Nothing → r ≡ size_answer (size_in x) → Not ≡ number_of (whole_of x)
-  number_plain_not e p q = rw (whole_plain x e, nothing r (size_in x) p q)
+  pub number_minus_not : lt x (fin false 0 (pos 0)) ≡ true → none ≡ size_in (neg x) → None ≡ number_of (whole_of x)
+  number_minus_not e s = rw (whole_minus x e, ← s)
+
+  pub number_plain_not : lt x (fin false 0 (pos 0)) ≡ false → none ≡ size_in x → None ≡ number_of (whole_of x)
+  number_plain_not e s = rw (whole_plain x e, ← s)

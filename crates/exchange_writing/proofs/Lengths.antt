@@ -1,5 +1,6 @@
 -- How long the text of a number is, digit by digit. Assumes nothing.
-use Rattle.std.proofs.Common.{◌≡◌, ℕ, zero, suc, ◌+◌, ◌/◌, ◌%◌, ◌^◌, ◌<◌, ◌≤◌, Bool, true, false, [], ◌∷◌, ◌++◌, length, refl, ap, div-lt_iff_lt-mul, pow-suc, arith, length-append, le-ltb, lt-ltb}
+use Rattle.std.proofs.Common.{◌≡◌, ℕ, zero, suc, ◌+◌, ◌/◌, ◌%◌, ◌^◌, ◌<◌, ◌≤◌, Bool, true, false, [], ◌∷◌, ◌++◌, length, refl, ap}
+use Rattle.std.proofs.Common.{div-lt_iff_lt-mul, pow-suc, arith, length-append, le-ltb, lt-ltb}
 use Rattle.common.proofs.Cases.{by_lt}
 use Rattle.text.specs.Text.{decimal_in, decimal}
 use Rattle.text.proofs.Numbers.{decimal_length}

@@ -1,5 +1,7 @@
 -- The lines of entries, one after the other, and how long they are; and how long the first lines are. Assumes nothing.
-use Rattle.std.proofs.Common.{◌≡◌, ℕ, suc, ◌+◌, ◌-◌, ◌*◌, ◌<◌, ◌≤◌, min, Bool, true, false, List, [], ◌∷◌, ◌++◌, length, get_or, take, drop, ℤ, pos, negsuc, sym, refl, ap, ◌∙◌, append_assoc, append-nil, zero-le, add-one, arith, length-append, drop_of_length-le, take_all, drop-cons, take-suc}
+use Rattle.std.proofs.Common.{◌≡◌, ℕ, suc, ◌+◌, ◌-◌, ◌*◌, ◌<◌, ◌≤◌, min, true, false, List, [], ◌∷◌, ◌++◌, length, get_or, take, drop}
+use Rattle.std.proofs.Common.{ℤ, pos, negsuc, sym, refl, ap, ◌∙◌, append_assoc, append-nil, zero-le, add-one, arith, length-append}
+use Rattle.std.proofs.Common.{drop_of_length-le, take_all, drop-cons, take-suc}
 use mathlib.Core.Option.{Option, some, none}
 use lib.Ieee.{Float, nan}
 use Rattle.common.specs.Refusals.{bad_entry}
@@ -8,11 +10,9 @@ use Rattle.text.proofs.Numbers.{decimal_length}
 use Rattle.exchange_format.specs.Lines.{newline}
 use Rattle.exchange_format.specs.Reading.{Outcome, refuse, give, then, one_more}
 use Rattle.exchange_format.specs.Writing.{unlines, integer, whole_of, wholes}
-use Rattle.exchange_writing.specs.Working.{number_of, spell, spelt, spelled, minus, signed_line, head_text, measured}
+use Rattle.exchange_writing.specs.Working.{number_of, spell, spelt, spelled, signed_line, head_text, measured}
+use Rattle.std.specs.Prelude.{Some, None}
 use Rattle.exchange_writing.specs.declared.wholes.Whole.{Whole}
-use Rattle.exchange_writing.specs.declared.wholes.Whole.TheVariants.{Number, Not}
-use Rattle.exchange_writing.specs.declared.Total.{Total}
-use Rattle.exchange_writing.specs.declared.Total.TheVariants.{Long, Fault}
 
 -- NO WORD
 
@@ -21,47 +21,29 @@ put_nothing to l = let none : to + min 0 (length l - to) ≡ to = omega arith in
 
 -- ONE ENTRY
 
-module _ (r : Whole) (o : Option ℤ) where
-  no_number : r ≡ Not → r ≡ number_of o → o ≡ none
-  no_number p q = go o (sym p ∙ q)
-    where
-      go : (o : Option ℤ) → Not ≡ number_of o → o ≡ none
-      go none e = refl
-      go (some (pos n)) e = absurd (let z : ◌≡◌ {A = ℕ} 0 1 = cc in omega arith)
-      go (some (negsuc n)) e = absurd (let z : ◌≡◌ {A = ℕ} 0 1 = cc in omega arith)
+no_number : (o : Option ℤ) → None ≡ number_of o → o ≡ none
+no_number none e = refl
+no_number (some (pos n)) e = absurd (let z : ◌≡◌ {A = ℕ} 0 1 = cc in omega arith)
+no_number (some (negsuc n)) e = absurd (let z : ◌≡◌ {A = ℕ} 0 1 = cc in omega arith)
 
-  pub no_spelling : r ≡ Not → r ≡ number_of o → spell o ≡ []
-  no_spelling p q = ap spell (no_number p q)
+-- a number that is found is spelt with its sign
+record Spelt (w : Whole) (o : Option ℤ) : Type 0 where
+  number : ℤ
+  is : o ≡ some number
+  line : integer number ++ newline ∷ [] ≡ signed_line w.is_negative w.size
 
-  -- a number that is found is spelt with its sign
-  record Spelt (s : Bool) (n : ℕ) : Type 0 where
-    number : ℤ
-    is : o ≡ some number
-    line : integer number ++ newline ∷ [] ≡ signed_line s n
+a_number : (w : Whole) (o : Option ℤ) → Some w ≡ number_of o → Spelt w o
+unfolding integer
+a_number w none e = absurd (let z : ◌≡◌ {A = ℕ} 0 1 = cc in omega arith)
+a_number w (some (pos m)) e =
+    let q : w ≡ record { is_negative = false; size = m } = cc in
+    record { number = pos m; is = refl; line = rw q }
+a_number w (some (negsuc m)) e =
+    let q : w ≡ record { is_negative = true; size = suc m } = cc in
+    record { number = negsuc m; is = refl; line = rw q }
 
-  a_number : (s : Bool) (n : ℕ) → r ≡ Number s n → r ≡ number_of o → Spelt s n
-  unfolding integer
-  a_number s n p q = go o refl (sym p ∙ q)
-    where
-      go : (w : Option ℤ) → o ≡ w → Number s n ≡ number_of w → Spelt s n
-      go none u e = absurd (let z : ◌≡◌ {A = ℕ} 0 1 = cc in omega arith)
-      go (some (pos m)) u e =
-          let a : s ≡ false = cc in
-          let b : n ≡ m = cc in
-          record { number = pos m; is = u; line = rw (a, b) }
-      go (some (negsuc m)) u e =
-          let a : s ≡ true = cc in
-          let b : n ≡ suc m = cc in
-          record { number = negsuc m; is = u; line = rw (a, b) }
-
-  pub spelling : (s : Bool) (n : ℕ) → r ≡ Number s n → r ≡ number_of o → spell o ≡ signed_line s n
-  spelling s n p q = let h = a_number s n p q in ap spell h.is ∙ h.line
-
-pub minus_yes : (s : Bool) → s ≡ true → minus s ≡ 45 ∷ []
-minus_yes s e = rw e
-
-pub minus_no : (s : Bool) → s ≡ false → minus s ≡ []
-minus_no s e = rw e
+pub spelling : (w : Whole) (o : Option ℤ) → Some w ≡ number_of o → spell o ≡ signed_line w.is_negative w.size
+spelling w o e = let h = a_number w o e in ap spell h.is ∙ h.line
 
 most : (o : Option ℤ) → length (spell o) ≤ 22
 unfolding integer
@@ -101,53 +83,53 @@ spelled_all b i h = ap spelled (take_all i b h)
 -- THE MEASURE
 
 -- so many bytes more
-pub added : ℕ → Total → Total
-added s (Fault n k) = Fault n k
-added s (Long m) = Long (s + m)
+pub added : ℕ → Outcome ℕ → Outcome ℕ
+added s (refuse n k) = refuse n k
+added s (give m) = give (s + m)
 
-pub added_none : (m : Total) → added 0 m ≡ m
+pub added_none : (m : Outcome ℕ) → added 0 m ≡ m
 unfolding added
-added_none (Fault n k) = refl
-added_none (Long m) = ap Long (omega arith)
+added_none (refuse n k) = refl
+added_none (give m) = ap give (omega arith)
 
-added_twice : (s t : ℕ) (m : Total) → added (s + t) m ≡ added s (added t m)
+added_twice : (s t : ℕ) (m : Outcome ℕ) → added (s + t) m ≡ added s (added t m)
 unfolding added
-added_twice s t (Fault n k) = refl
-added_twice s t (Long m) = ap Long (omega arith)
+added_twice s t (refuse n k) = refl
+added_twice s t (give m) = ap give (omega arith)
 
 measured_more : (z : ℤ) (o : Outcome (List ℤ)) → added (length (spell (some z))) (measured o) ≡ measured (then o (λ xs. give (z ∷ xs)))
 unfolding added unlines
 measured_more z (refuse n k) = refl
-measured_more z (give xs) = ap Long (simp length-append (omega arith))
+measured_more z (give xs) = ap give (simp length-append (omega arith))
 
 wholes_here : (k : ℕ) (b : List Float) (i : ℕ) → i < length b → wholes k (drop i b) ≡ one_more k (whole_of (get_or b i nan))
     (wholes (k + 1) (drop (i + 1) b))
 unfolding wholes
 wholes_here k b i h = rw (step b i h)
 
-module _ (k : ℕ) (b : List Float) (i sum : ℕ) (r : Total) (says : added sum (measured (wholes k (drop i b))) ≡ r) where
-  pub measured_all : length b ≤ i → Long sum ≡ r
+module _ (k : ℕ) (b : List Float) (i sum : ℕ) (r : Outcome ℕ) (says : added sum (measured (wholes k (drop i b))) ≡ r) where
+  pub measured_all : length b ≤ i → give sum ≡ r
   unfolding wholes added unlines
   measured_all h =
       let all : wholes k (drop i b) ≡ give [] = rw (drop_of_length-le b h) in
-      ap Long (omega arith) ∙ sym (ap (λ (o : Outcome (List ℤ)). added sum (measured o)) all) ∙ says
+      ap give (omega arith) ∙ sym (ap (λ (o : Outcome (List ℤ)). added sum (measured o)) all) ∙ says
 
   later : Outcome (List ℤ)
   later = wholes (k + 1) (drop (i + 1) b)
 
-  module _ (h : i < length b) (w : Whole) (e : w ≡ number_of (whole_of (get_or b i nan))) where
-    pub measured_bad : w ≡ Not → Fault bad_entry k ≡ r
+  module _ (h : i < length b) where
+    pub measured_bad : None ≡ number_of (whole_of (get_or b i nan)) → refuse bad_entry k ≡ r
     unfolding added later
-    measured_bad n =
+    measured_bad e =
         let bad : wholes k (drop i b) ≡ refuse bad_entry k =
-        wholes_here k b i h ∙ ap (λ (o : Option ℤ). one_more k o later) (no_number w (whole_of (get_or b i nan)) n e) in
+        wholes_here k b i h ∙ ap (λ (o : Option ℤ). one_more k o later) (no_number (whole_of (get_or b i nan)) e) in
         sym (ap (λ (o : Outcome (List ℤ)). added sum (measured o)) bad) ∙ says
 
-    pub measured_on : (s : Bool) (n d : ℕ) → w ≡ Number s n → d ≡ length (signed_line s n) →
-        added (sum + d) (measured (wholes (k + 1) (drop (i + 1) b))) ≡ r
+    pub measured_on : (w : Whole) (d : ℕ) → Some w ≡ number_of (whole_of (get_or b i nan)) →
+        d ≡ length (signed_line w.is_negative w.size) → added (sum + d) (measured (wholes (k + 1) (drop (i + 1) b))) ≡ r
     unfolding later
-    measured_on s n d p q =
-        let g = a_number w (whole_of (get_or b i nan)) s n p e in
+    measured_on w d e q =
+        let g = a_number w (whole_of (get_or b i nan)) e in
         let line : d ≡ length (spell (some g.number)) = q ∙ sym (ap length g.line) in
         let here : wholes k (drop i b) ≡ one_more k (some g.number) later =
         wholes_here k b i h ∙ ap (λ (o : Option ℤ). one_more k o later) g.is in

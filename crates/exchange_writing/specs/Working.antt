@@ -1,5 +1,7 @@
 -- What the code that measures and writes lines answers and leaves. No public call's contract cites it.
 use Rattle.std.specs.Prelude.{ℕ, suc, Bool, true, false, cond, List, [], ◌∷◌, ◌++◌, map, length, ℤ, pos, negsuc, Float}
+use Rattle.std.specs.Prelude.{Some, None}
+use Rattle.std.specs.Prelude.{Option as Answer}
 use Rattle.std.proofs.Math.Option.{Option, some, none}
 use Rattle.std.specs.Float.Ieee.{in_unsigned, to_unsigned}
 use Rattle.std.specs.Float.{binary64}
@@ -8,25 +10,16 @@ use Rattle.exchange_format.specs.Lines.{newline, space}
 use Rattle.exchange_format.specs.Words.{banner, kind}
 use Rattle.exchange_format.specs.Reading.{Outcome, refuse, give}
 use Rattle.exchange_format.specs.Writing.{integer, unlines, whole_of}
-use Rattle.exchange_writing.specs.declared.wholes.Size.{Size}
-use Rattle.exchange_writing.specs.declared.wholes.Size.TheVariants.{Value, Nothing}
 use Rattle.exchange_writing.specs.declared.wholes.Whole.{Whole}
-use Rattle.exchange_writing.specs.declared.wholes.Whole.TheVariants as whole
-use Rattle.exchange_writing.specs.declared.Total.{Total}
-use Rattle.exchange_writing.specs.declared.Total.TheVariants as total
 
 -- a float that is a whole number up to 2 ^ 53 and has no minus
 unfoldable pub size_in : Float → Option ℕ
 size_in x = cond (in_unsigned binary64 64 x) (some (to_unsigned 64 x)) none
 
-abbrev pub size_answer : Option ℕ → Size
-size_answer none = Nothing
-size_answer (some n) = Value n
-
-abbrev pub number_of : Option ℤ → Whole
-number_of none = whole.Not
-number_of (some (pos n)) = whole.Number false n
-number_of (some (negsuc n)) = whole.Number true (suc n)
+abbrev pub number_of : Option ℤ → Answer Whole
+number_of none = None
+number_of (some (pos n)) = Some (record { is_negative = false; size = n })
+number_of (some (negsuc n)) = Some (record { is_negative = true; size = suc n })
 
 -- the line of an entry, with its newline; none where it is refused
 abbrev pub spell : Option ℤ → List ℕ
@@ -52,6 +45,6 @@ unfoldable pub head_text : (rows columns : ℕ) → List ℕ
 head_text r c = ((((banner ++ kind ++ newline ∷ []) ++ decimal r) ++ space ∷ []) ++ decimal c) ++ newline ∷ []
 
 -- how long the entries' lines are, or their first fault
-abbrev pub measured : Outcome (List ℤ) → Total
-measured (refuse n k) = total.Fault n k
-measured (give xs) = total.Long (length (unlines (map integer xs)))
+abbrev pub measured : Outcome (List ℤ) → Outcome ℕ
+measured (refuse n k) = refuse n k
+measured (give xs) = give (length (unlines (map integer xs)))

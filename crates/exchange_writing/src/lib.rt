@@ -2,8 +2,12 @@
 #![tactic(auto)]
 
 ghost use Rattle.std.specs.Prelude.{◌≡◌, ◌≤◌, length};
+ghost use Rattle.exchange_format.specs.Faults.{outcome};
 ghost use Rattle.exchange_format.specs.Writing.{wholes};
 ghost use Rattle.exchange_writing.specs.Working.{measured};
+
+use common::Refusal;
+use exchange_format::Fault;
 
 mod putting;
 mod wholes;
@@ -11,35 +15,20 @@ mod wholes;
 pub use putting::{put_entries, put_head};
 pub use wholes::digit_count;
 
-// How long the lines of all entries are; or the first entry's fault.
-#[derive(Drop)]
-pub enum Total {
-    Long(usize),
-    Fault { number: u8, line: usize },
-}
-
-// The first entry stands in the third line.
-pub fn measure(block: &[f64]) -> Total
+// How long the lines of all entries are, of which the first is the third of the text; or the first entry's fault.
+pub fn measure(block: &[f64]) -> Result<usize, Fault>
     requires { length block.now ≤ 1048576 }
-    ensures { result ≡ measured (wholes 3 block.now) }
+    ensures { outcome result ≡ measured (wholes 3 block.now) }
 {
-    let mut i = 0;
-    let mut line = 3;
     let mut sum = 0;
-    while i < block.len() {
-        match wholes::whole_of(block[i]) {
-            wholes::Whole::Not => {
-                return Total::Fault {
-                    number: common::BAD_ENTRY,
-                    line,
-                };
-            }
-            wholes::Whole::Number { is_negative, size } => {
-                sum = sum + wholes::line_length(is_negative, size);
-                i += 1;
-                line += 1;
-            }
-        }
+    for (i, x) in block.iter().enumerate() {
+        let Some(whole) = wholes::whole_of(*x) else {
+            return Err(Fault {
+                refusal: Refusal::BadEntry,
+                line: 3 + i,
+            });
+        };
+        sum += wholes::line_length(whole);
     }
-    Total::Long(sum)
+    Ok(sum)
 }

@@ -1,19 +1,21 @@
 // Lines that are put into a lent text, one after the other.
 ghost use Rattle.std.specs.Prelude.{◌≡◌, ◌+◌, ◌≤◌, length};
 ghost use Rattle.std.proofs.lemmas.List.Edits.{sets};
-ghost use Rattle.text.specs.Text.{decimal, put};
+ghost use Rattle.text.specs.Text.{decimal, put as Text·put};
 ghost use Rattle.exchange_writing.specs.Working.{minus, signed_line, spelt, spelled, head_text};
 
 use crate::wholes;
+use crate::wholes::Whole;
+use text::Line;
 
 // A minus, where it is asked.
-fn put_minus(text: &mut [u8], to: usize, is_negative: bool) -> usize
-    ensures { (result, text.new) ≡ put to (minus is_negative) text.old }
+fn put_minus(line: &mut Line, is_negative: bool)
+    ensures same { line.new.bytes.ghost_name ≡ line.old.bytes.ghost_name }
+    ensures put { (line.new.to, line.new.bytes.now) ≡ Text·put line.old.to (minus is_negative) line.old.bytes.now }
 {
     if is_negative {
-        return text::put_byte(text, to, b'-');
+        line.put_byte(b'-');
     }
-    to
 }
 
 // The digits of a number, of which there are so many, each stored where it belongs, from the last on.
@@ -32,58 +34,59 @@ fn put_digits(text: &mut [u8], to: usize, count: usize, n: u64)
 }
 
 // A number in decimal, as `text` puts it, but with no copy where all its digits have room.
-fn put_decimal(text: &mut [u8], to: usize, n: u64) -> usize
-    ensures { (result, text.new) ≡ put to (decimal n) text.old }
+fn put_decimal(line: &mut Line, n: u64)
+    ensures same { line.new.bytes.ghost_name ≡ line.old.bytes.ghost_name }
+    ensures put { (line.new.to, line.new.bytes.now) ≡ Text·put line.old.to (decimal n) line.old.bytes.now }
 {
     let count = wholes::digit_count(n);
-    if to <= text.len() {
-        if count <= text.len() - to {
-            put_digits(text, to, count, n);
-            return to + count;
-        }
+    let to = line.to;
+    if to <= line.bytes.len() && count <= line.bytes.len() - to {
+        put_digits(line.bytes, to, count, n);
+        line.to += count;
+    } else {
+        line.put_number(n);
     }
-    text::put_number(text, to, n)
 }
 
 // A number with its sign, and the line's end.
-fn put_signed(text: &mut [u8], to: usize, is_negative: bool, size: u64) -> usize
-    ensures { (result, text.new) ≡ put to (signed_line is_negative size) text.old }
+fn put_signed(line: &mut Line, whole: Whole)
+    ensures same { line.new.bytes.ghost_name ≡ line.old.bytes.ghost_name }
+    ensures put { (line.new.to, line.new.bytes.now) ≡
+        Text·put line.old.to (signed_line whole.is_negative whole.size) line.old.bytes.now }
 {
-    let after_minus = put_minus(text, to, is_negative);
-    let after_digits = put_decimal(text, after_minus, size);
-    text::put_byte(text, after_digits, b'\n')
+    put_minus(line, whole.is_negative);
+    put_decimal(line, whole.size);
+    line.put_byte(b'\n');
 }
 
 // An entry's line.
-fn put_entry(text: &mut [u8], to: usize, x: f64) -> usize
-    ensures { (result, text.new) ≡ put to (spelt x) text.old }
+fn put_entry(line: &mut Line, x: f64)
+    ensures same { line.new.bytes.ghost_name ≡ line.old.bytes.ghost_name }
+    ensures put { (line.new.to, line.new.bytes.now) ≡ Text·put line.old.to (spelt x) line.old.bytes.now }
 {
-    match wholes::whole_of(x) {
-        wholes::Whole::Not => to,
-        wholes::Whole::Number { is_negative, size } => put_signed(text, to, is_negative, size),
+    if let Some(whole) = wholes::whole_of(x) {
+        put_signed(line, whole);
     }
 }
 
 // A line an entry.
-pub fn put_entries(text: &mut [u8], to: usize, block: &[f64]) -> usize
-    ensures { (result, text.new) ≡ put to (spelled block.now) text.old }
+pub fn put_entries(line: &mut Line, block: &[f64])
+    ensures same { line.new.bytes.ghost_name ≡ line.old.bytes.ghost_name }
+    ensures put { (line.new.to, line.new.bytes.now) ≡ Text·put line.old.to (spelled block.now) line.old.bytes.now }
 {
-    let mut at = to;
-    let mut i = 0;
-    while i < block.len() {
-        at = put_entry(text, at, block[i]);
-        i += 1;
+    for x in block {
+        put_entry(line, *x);
     }
-    at
 }
 
 // The first line and the size line.
-pub fn put_head(text: &mut [u8], rows: usize, columns: usize) -> usize
-    ensures { (result, text.new) ≡ put 0 (head_text rows columns) text.old }
+pub fn put_head(line: &mut Line, rows: usize, columns: usize)
+    ensures same { line.new.bytes.ghost_name ≡ line.old.bytes.ghost_name }
+    ensures put { (line.new.to, line.new.bytes.now) ≡ Text·put line.old.to (head_text rows columns) line.old.bytes.now }
 {
-    let after_first = text::put(text, 0, b"%%MatrixMarket matrix array integer general\n");
-    let after_rows = text::put_number(text, after_first, rows as u64);
-    let after_space = text::put_byte(text, after_rows, b' ');
-    let after_columns = text::put_number(text, after_space, columns as u64);
-    text::put_byte(text, after_columns, b'\n')
+    line.put(b"%%MatrixMarket matrix array integer general\n");
+    line.put_number(rows as u64);
+    line.put_byte(b' ');
+    line.put_number(columns as u64);
+    line.put_byte(b'\n');
 }

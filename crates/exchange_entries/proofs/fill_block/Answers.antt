@@ -15,25 +15,26 @@ use Rattle.exchange_entries.proofs.fill_block.Goals as goal
 
 pub read_entry-entry-requires : goal.read_entry-entry-requires
 read_entry-entry-requires c =
-    let here = line_here c.args.text.now c.args.from c.loop-i.at c.loop-i.i c.loop-i.invariant.2 in
-    let fit : is_fit (entry (line_at c.args.text.now c.loop-i.at)) ≡ true =
-    ap (λ (l : List ℕ). is_fit (entry l)) here ∙ c.requires.1 c.loop-i.i (omega arith) in
-    (fit_inside c.args.text.now c.loop-i.at fit, fit)
+    let here = line_here c.args.text.now c.args.from c.loop-place.at c.loop-place.place-index c.loop-place.invariant.2 in
+    let fit : is_fit (entry (line_at c.args.text.now c.loop-place.at)) ≡ true =
+    ap (λ (l : List ℕ). is_fit (entry l)) here ∙ c.requires.1 c.loop-place.place-index (omega arith) in
+    (fit_inside c.args.text.now c.loop-place.at fit, fit)
 
-pub loop-i-preserved : goal.loop-i-preserved
-loop-i-preserved c =
+pub loop-place-preserved : goal.loop-place-preserved
+loop-place-preserved c =
     let a = c.args in
     let y = c.read_entry-entry in
-    let here = line_here a.text.now a.from c.loop-i.at c.loop-i.i c.loop-i.invariant.2 in (
-      filling_more 0 (length a.block.now) (value_at (lines (drop a.from a.text.now))) a.block.now c.loop-i.block
-          c.loop-i.i c.loop-i.i nan y.result.value c.loop-i.invariant.0 (omega arith) (omega arith) (omega arith)
+    let here = line_here a.text.now a.from c.loop-place.at c.loop-place.place-index c.loop-place.invariant.2 in (
+      filling_more 0 (length a.block.now) (value_at (lines (drop a.from a.text.now))) a.block.now c.loop-place.block
+          c.loop-place.place-index c.loop-place.place-index nan y.result.value c.loop-place.invariant.0 (omega arith) (omega arith)
+          (omega arith)
           (y.ensures.value ∙ ap (λ (l : List ℕ). value_of (entry l)) here),
       y.ensures.past.within,
-      line_next a.text.now a.from c.loop-i.at c.loop-i.i c.loop-i.invariant.2 y.result.next y.ensures.past,
+      line_next a.text.now a.from c.loop-place.at c.loop-place.place-index c.loop-place.invariant.2 y.result.next y.ensures.past,
     )
 
 pub returns : goal.returns
 returns c =
     let a = c.args in
-    filling_whole (length a.block.now) (value_at (lines (drop a.from a.text.now))) a.block.now c.loop-i.block c.loop-i.i
-    c.loop-i.invariant.0 (omega arith) refl
+    filling_whole (length a.block.now) (value_at (lines (drop a.from a.text.now))) a.block.now c.loop-place.block c.loop-place.place-index
+    c.loop-place.invariant.0 (omega arith) refl

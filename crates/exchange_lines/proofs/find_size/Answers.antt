@@ -1,16 +1,8 @@
 -- `exchange_lines::find_size` meets its contract. The loop keeps what the lines from `at` on say. Assumes nothing.
-use mathlib.Core.Path.{refl, ◌∙◌}
+use mathlib.Core.Path.{◌∙◌}
 use native.Mathlib.Omega.{arith}
 use Rattle.exchange_lines.proofs.Files.{size_missing, size_later, size_here}
 use Rattle.exchange_lines.proofs.find_size.Goals as goal
-
-pub loop-at-init : goal.loop-at-init
-loop-at-init c = (omega arith, omega arith, refl)
-
-pub loop-at-smaller : goal.loop-at-smaller
-loop-at-smaller c =
-    let far = c.line_at-line.ensures.further c.loop-at-test.true in
-    omega (arith, c.loop-at-test.true)
 
 pub loop-at-preserved : goal.loop-at-preserved
 loop-at-preserved c =
@@ -21,24 +13,18 @@ loop-at-preserved c =
       omega (arith, c.loop-at.invariant.1),
       size_later c.loop-at.k a.text.now c.loop-at.at y.result.end y.result.next y.ensures
           c.loop-at-test.true
-          c.is_passed.result c.is_passed.ensures c.if-is_passed.true ∙ c.loop-at.invariant.2,
+          c.is_passed.result c.is_passed.ensures c.if-not-is_passed.false ∙ c.loop-at.invariant.2,
     )
 
-pub size_at-requires : goal.size_at-requires
-size_at-requires c =
-    let y = c.line_at-line in
-    let far = y.ensures.further c.loop-at-test.true in
-    (y.ensures.least, y.ensures.most, y.ensures.within, omega (arith, c.loop-at.invariant.1))
-
-pub returns-else-is_passed : goal.returns-else-is_passed
-returns-else-is_passed c =
+pub returns-then-not-is_passed : goal.returns-then-not-is_passed
+returns-then-not-is_passed c =
     let a = c.args in
     let y = c.line_at-line in
     record {
       means = c.size_at.ensures.means ∙
           size_here c.loop-at.k a.text.now c.loop-at.at y.result.end y.result.next y.ensures
           c.loop-at-test.true
-          c.is_passed.result c.is_passed.ensures c.if-is_passed.false ∙ c.loop-at.invariant.2;
+          c.is_passed.result c.is_passed.ensures c.if-not-is_passed.true ∙ c.loop-at.invariant.2;
       sound = c.size_at.ensures.sound;
     }
 

@@ -4,4 +4,4 @@ use Rattle.exchange_told.proofs.with_line.Goals as goal
 
 pub returns : goal.returns
 unfolding with_line
-returns c = rw c.least-told.ensures
+returns c = rw (c.number.ensures, c.min-told.ensures)

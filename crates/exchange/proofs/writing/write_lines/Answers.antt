@@ -1,10 +1,11 @@
 -- `exchange::writing::write_lines` meets its contract: a text that is too short, or one line after the other. Assumes nothing.
-use mathlib.Core.Path.{◌≡◌}
+use mathlib.Core.Path.{◌≡◌, ◌∙◌}
 use mathlib.Core.List.{◌++◌}
 use Prim.Native.Nat.{◌+◌, ◌≤◌}
 use native.Mathlib.Omega.{arith}
 use lib.ListN.{length, length-append}
-use Rattle.text.specs.Text.{decimal}
+use Rattle.std.proofs.Common.{rules}
+use Rattle.text.specs.Text.{decimal, put}
 use Rattle.text.proofs.Numbers.{decimal_length}
 use Rattle.text.proofs.Putting.{put_then}
 use Rattle.exchange_writing.specs.Working.{head_text, spelled}
@@ -31,13 +32,13 @@ total c =
     )
 
 pub overflow_add-head : goal.overflow_add-head
-overflow_add-head c = omega (arith, (total (goal.at.overflow_add-head c).After-digit_count-2).1, (total (goal.at.overflow_add-head c).After-digit_count-2).2)
+overflow_add-head c = let t = total (goal.at.overflow_add-head c).After-digit_count-2 in omega (arith, t.1, t.2)
 
 pub overflow_add-head-2 : goal.overflow_add-head-2
-overflow_add-head-2 c = omega (arith, (total (goal.at.overflow_add-head-2 c).After-digit_count-2).1, (total (goal.at.overflow_add-head-2 c).After-digit_count-2).2)
+overflow_add-head-2 c = let t = total (goal.at.overflow_add-head-2 c).After-digit_count-2 in omega (arith, t.1, t.2)
 
 pub overflow_add-head-3 : goal.overflow_add-head-3
-overflow_add-head-3 c = omega (arith, (total (goal.at.overflow_add-head-3 c).After-digit_count-2).1, (total (goal.at.overflow_add-head-3 c).After-digit_count-2).2, c.requires.1)
+overflow_add-head-3 c = let t = total (goal.at.overflow_add-head-3 c).After-digit_count-2 in omega (arith, t.1, t.2, c.requires.1)
 
 pub returns-then-text-head : goal.returns-then-text-head
 returns-then-text-head c =
@@ -48,7 +49,10 @@ returns-then-text-head c =
 pub returns : goal.returns
 returns c =
     let a = c.args in
+    let l = c.new-line in
     let first = head_text a.rows a.columns in
     let rest = spelled a.block.now in
+    let both = put_then l.result.to first rest l.result.bytes.now c.put_head.ensures.put c.put_entries.ensures.put in
+    let begun : put l.result.to (first ++ rest) l.result.bytes.now ≡ put 0 (first ++ rest) a.text.now = rw (l.ensures.to, l.ensures.bytes) in
     text_fits a.text.now (first ++ rest) (omega (arith, (total (goal.at.returns c).After-digit_count-2).0, c.if-text-head.false)) _ _
-    (put_then 0 first rest a.text.now c.put_head-after.ensures c.put_entries.ensures)
+    (search (rules, both ∙ begun))

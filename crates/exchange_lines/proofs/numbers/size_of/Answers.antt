@@ -1,43 +1,44 @@
 -- `exchange_lines::numbers::size_of` meets its contract: the numbers before the first space and past the spaces. Assumes nothing.
-use mathlib.Core.Path.{sym}
-use native.Mathlib.Omega.{arith}
-use lib.Seq.{length-take-le}
-use Rattle.exchange_lines.proofs.Scanning.{before_most}
-use Rattle.exchange_lines.proofs.Forms.{Parted, size_first, size_second, size_both}
-use Rattle.exchange_lines.proofs.numbers.size_of.Goals.{After-numeral-second}
+use Rattle.std.proofs.Common.{sym, ap, ◌∙◌}
+use Rattle.common.specs.Refusals.{most_entries}
+use Rattle.exchange_format.specs.Faults.{found}
+use Rattle.exchange_lines.specs.Working.{size_of}
+use Rattle.exchange_lines.proofs.Running.{numeral_most}
+use Rattle.exchange_lines.proofs.Forms.{size_one_word, size_no_second, size_first, size_second, size_both}
 use Rattle.exchange_lines.proofs.numbers.size_of.Goals as goal
 
-pub skip-start-requires : goal.skip-start-requires
-skip-start-requires c = omega (arith, before_most 32 c.args.line.now)
+pub returns-in_err-end : goal.returns-in_err-end
+returns-in_err-end c = ap (found size_of) c.from_residual.ensures ∙ size_one_word c.args.line.now (sym c.find.ensures ∙ c.in_err-end.was)
 
-pub slice_bounds-numeral-end : goal.slice_bounds-numeral-end
-slice_bounds-numeral-end c =
-    let line = c.args.line.now in
-    sym (length-take-le c.find-end.result line (omega (arith, before_most 32 line)))
+pub returns-in_err-spaces : goal.returns-in_err-spaces
+returns-in_err-spaces c =
+    let l = c.args.line.now in
+    ap (found size_of) c.from_residual-in_err-spaces.ensures ∙
+    size_no_second l c.in_ok-end.end (sym c.find.ensures ∙ c.in_ok-end.was) (sym c.skip.ensures ∙ c.in_err-spaces.was)
 
--- the two numbers, by where they stand
-parted : (c : After-numeral-second) →
-    Parted c.args.line.now c.numeral-first.result
-    c.numeral-second.result
-parted c =
+pub returns-in_err-rows : goal.returns-in_err-rows
+returns-in_err-rows c =
+    let l = c.args.line.now in
+    ap (found size_of) c.from_residual-in_err-rows.ensures ∙
+    size_first l c.in_ok-end.end (sym c.find.ensures ∙ c.in_ok-end.was) c.in_ok-spaces.spaces (sym c.skip.ensures ∙ c.in_ok-spaces.was)
+    (sym c.in_err-rows.ensures)
+
+pub returns-in_err-columns : goal.returns-in_err-columns
+returns-in_err-columns c =
+    let l = c.args.line.now in
+    ap (found size_of) c.from_residual-in_err-columns.ensures ∙
+    size_second l c.in_ok-end.end (sym c.find.ensures ∙ c.in_ok-end.was) c.in_ok-spaces.spaces (sym c.skip.ensures ∙ c.in_ok-spaces.was)
+    c.in_ok-rows.rows (sym c.in_ok-rows.ensures) (sym c.in_err-columns.ensures)
+
+pub invariant_of-result : goal.invariant_of-result
+invariant_of-result c =
     record {
-      end = c.find-end.result;
-      start = c.skip-start.result;
-      ends = c.find-end.ensures;
-      spaces = c.skip-start.ensures;
-      first = c.numeral-first.ensures;
-      second = c.numeral-second.ensures;
+      within =
+          (numeral_most most_entries _ _ (sym c.in_ok-rows.ensures), numeral_most most_entries _ _ (sym c.in_ok-columns.ensures));
     }
 
-pub returns-in-Nothing : goal.returns-in-Nothing
-returns-in-Nothing c = size_first (parted (goal.at.returns-in-Nothing c).After-numeral-second) c.in-Nothing.is
-
-pub returns-in-Nothing-second : goal.returns-in-Nothing-second
-returns-in-Nothing-second c =
-    size_second (parted (goal.at.returns-in-Nothing-second c).After-numeral-second) _ c.in-Value.is
-    c.in-Nothing-second.is
-
-pub returns-in-Value-second : goal.returns-in-Value-second
-returns-in-Value-second c =
-    size_both (parted (goal.at.returns-in-Value-second c).After-numeral-second) _ _ c.in-Value.is
-    c.in-Value-second.is
+pub returns : goal.returns
+returns c =
+    let l = c.args.line.now in
+    size_both l c.in_ok-end.end (sym c.find.ensures ∙ c.in_ok-end.was) c.in_ok-spaces.spaces (sym c.skip.ensures ∙ c.in_ok-spaces.was)
+    c.in_ok-rows.rows (sym c.in_ok-rows.ensures) c.in_ok-columns.columns (sym c.in_ok-columns.ensures)

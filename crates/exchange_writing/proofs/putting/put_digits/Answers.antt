@@ -13,12 +13,6 @@ loop-rest-init c =
     storing_none c.args.n c.args.to (c.args.to + c.args.count - 1) c.args.text.now small
     (omega (arith, c.requires.0, decimal_least c.args.n small))
 
-pub overflow_cast-text : goal.overflow_cast-text
-overflow_cast-text c = omega arith
-
-pub overflow_add-text : goal.overflow_add-text
-overflow_add-text c = omega arith
-
 pub bounds-text-i : goal.bounds-text-i
 bounds-text-i c = storing_inside c.loop-rest.invariant (omega (arith, c.requires.0, c.requires.1))
 
@@ -27,12 +21,6 @@ overflow_sub-i-in-loop-rest c = storing_later c.loop-rest.invariant c.loop-rest-
 
 pub loop-rest-preserved : goal.loop-rest-preserved
 loop-rest-preserved c = storing_more c.loop-rest.invariant c.loop-rest-test.true
-
-pub overflow_cast-text-2 : goal.overflow_cast-text-2
-overflow_cast-text-2 c = omega arith
-
-pub overflow_add-text-2 : goal.overflow_add-text-2
-overflow_add-text-2 c = omega arith
 
 pub bounds-text-i-2 : goal.bounds-text-i-2
 bounds-text-i-2 c = storing_inside c.loop-rest.invariant (omega (arith, c.requires.0, c.requires.1))

@@ -1,12 +1,13 @@
--- `exchange_writing::putting::put_entries` meets its contract. The loop keeps that the lines of the first i entries are put. Assumes
+-- `exchange_writing::putting::put_entries` meets its contract. The loop keeps that the lines of the first entries are put. Assumes
 -- nothing.
-use Rattle.std.proofs.Common.{◌≡◌, ℕ, ◌-◌, ◌≤◌, List, length, take}
+use Rattle.std.proofs.Common.{◌≡◌, ℕ, List, take}
 use Rattle.text.specs.Text.{put}
 use Rattle.exchange_writing.specs.Working.{spelled}
 use Rattle.exchange_writing.proofs.putting.put_entries.Given as goal
 
-abbrev pub invariant-loop-i : goal.invariant-loop-i
-invariant-loop-i l = (l.i ≤ length l.block) × (◌≡◌ {A = ℕ × List ℕ} (l.at, l.text) (put l.to (spelled (take l.i l.block)) l.initial.text))
-
-abbrev pub decreases-loop-i : goal.decreases-loop-i
-decreases-loop-i l = length l.block - l.i
+abbrev pub invariant-loop-x : goal.invariant-loop-x
+invariant-loop-x l = record {
+  same : l.line.bytes.ghost_name ≡ l.initial.line.bytes.ghost_name;
+  put : ◌≡◌ {A = ℕ × List ℕ} (l.line.to, l.line.bytes.now)
+      (put l.initial.line.to (spelled (take l.x-index l.block)) l.initial.line.bytes.now);
+}

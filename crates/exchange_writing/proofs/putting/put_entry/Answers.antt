@@ -1,21 +1,13 @@
--- `exchange_writing::putting::put_entry` meets its contract: the line of the number, or none. Assumes nothing.
+-- `exchange_writing::putting::put_entry` meets its contract: the line of the number. That no number has no line is found alone. Assumes
+-- nothing.
 use Rattle.std.proofs.Common.{ℕ, List, sym, ap, ◌∙◌}
 use Rattle.text.specs.Text.{put}
 use Rattle.exchange_format.specs.Writing.{whole_of}
-use Rattle.exchange_writing.proofs.Spellings.{put_nothing, no_spelling, spelling}
+use Rattle.exchange_writing.proofs.Spellings.{spelling}
 use Rattle.exchange_writing.proofs.putting.put_entry.Goals as goal
 
-pub returns-in-Not : goal.returns-in-Not
-returns-in-Not c =
-    let w = c.whole_of in
-    let a = c.args in
-    put_nothing a.to a.text.now ∙
-    ap (λ (l : List ℕ). put a.to l a.text.now) (sym (no_spelling w.result (whole_of a.x) c.in-Not.is w.ensures))
-
-pub returns-in-Number : goal.returns-in-Number
-returns-in-Number c =
-    let w = c.whole_of in
-    let a = c.args in
-    c.put_signed.ensures ∙
-    ap (λ (l : List ℕ). put a.to l a.text.now)
-    (sym (spelling w.result (whole_of a.x) _ _ c.in-Number.is w.ensures))
+pub returns-in-Some-clause-put : goal.returns-in-Some-clause-put
+returns-in-Some-clause-put c =
+    let l = c.args.line.now in
+    c.put_signed.ensures.put ∙
+    ap (λ (w : List ℕ). put l.to w l.bytes.now) (sym (spelling c.in-Some.whole (whole_of c.args.x) c.in-Some.ensures))

@@ -7,15 +7,15 @@ use Rattle.exchange_format.specs.Words.{banner, kind}
 use Rattle.exchange_writing.specs.Working.{head_text}
 use Rattle.exchange_writing.proofs.putting.put_head.Goals as goal
 
-pub returns : goal.returns
+pub returns-clause-put : goal.returns-clause-put
 unfolding head_text
-returns c =
-    let a = c.args in
-    let l = a.text.now in
+returns-clause-put c =
+    let l = c.args.line.now in
+    let text = l.bytes.now in
     let start = banner ++ kind ++ newline ∷ [] in
-    let r = decimal a.rows in
-    let m = decimal a.columns in
-    let two = put_then 0 start r l c.put-after_first.ensures c.put_number-after_rows.ensures in
-    let three = put_then 0 (start ++ r) (space ∷ []) l two c.put_byte-after_space.ensures in
-    let four = put_then 0 ((start ++ r) ++ space ∷ []) m l three c.put_number-after_columns.ensures in
-    put_then 0 (((start ++ r) ++ space ∷ []) ++ m) (newline ∷ []) l four c.put_byte.ensures
+    let r = decimal c.args.rows in
+    let m = decimal c.args.columns in
+    let two = put_then l.to start r text c.put.ensures.put c.put_number.ensures.put in
+    let three = put_then l.to (start ++ r) (space ∷ []) text two c.put_byte.ensures.put in
+    let four = put_then l.to ((start ++ r) ++ space ∷ []) m text three c.put_number-2.ensures.put in
+    put_then l.to (((start ++ r) ++ space ∷ []) ++ m) (newline ∷ []) text four c.put_byte-2.ensures.put

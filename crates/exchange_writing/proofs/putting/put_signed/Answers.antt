@@ -6,10 +6,11 @@ use Rattle.exchange_format.specs.Lines.{newline}
 use Rattle.exchange_writing.specs.Working.{minus}
 use Rattle.exchange_writing.proofs.putting.put_signed.Goals as goal
 
-pub returns : goal.returns
-returns c =
-    let a = c.args in
-    let m = minus a.is_negative in
-    put_then a.to (m ++ decimal a.size) (newline ∷ []) a.text.now
-    (put_then a.to m (decimal a.size) a.text.now c.put_minus-after_minus.ensures c.put_decimal-after_digits.ensures)
-    c.put_byte.ensures
+pub returns-clause-put : goal.returns-clause-put
+returns-clause-put c =
+    let l = c.args.line.now in
+    let w = c.args.whole in
+    let m = minus w.is_negative in
+    put_then l.to (m ++ decimal w.size) (newline ∷ []) l.bytes.now
+    (put_then l.to m (decimal w.size) l.bytes.now c.put_minus.ensures.put c.put_decimal.ensures.put)
+    c.put_byte.ensures.put

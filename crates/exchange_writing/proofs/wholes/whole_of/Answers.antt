@@ -1,24 +1,22 @@
 -- `exchange_writing::wholes::whole_of` meets its contract: the number without its minus. Assumes nothing.
+use Rattle.std.proofs.Common.{◌∙◌}
 use lib.Ieee.{of_bits}
 use Rattle.exchange_writing.proofs.Floats.{number_minus, number_plain, number_minus_not, number_plain_not}
 use Rattle.exchange_writing.proofs.wholes.whole_of.Goals as goal
 
-pub returns-in-Nothing : goal.returns-in-Nothing
+pub returns-in_err-size : goal.returns-in_err-size
 unfolding of_bits
-returns-in-Nothing c = number_minus_not c.args.x c.size_in.result c.if-x.true
-    c.in-Nothing.is c.size_in.ensures
+returns-in_err-size c = c.from_residual.ensures ∙ number_minus_not c.args.x c.if-x.true c.in_err-size.ensures
 
-pub returns-in-Value : goal.returns-in-Value
+pub returns-then-x : goal.returns-then-x
 unfolding of_bits
-returns-in-Value c = number_minus c.args.x c.size_in.result
-    c.if-x.true _ c.in-Value.is c.size_in.ensures
+returns-then-x c = number_minus c.args.x c.if-x.true c.in_ok-size.size c.in_ok-size.ensures
 
-pub returns-in-Nothing-size_in : goal.returns-in-Nothing-size_in
+pub returns-in_err-size-2 : goal.returns-in_err-size-2
 unfolding of_bits
-returns-in-Nothing-size_in c = number_plain_not c.args.x c.size_in-else-x.result c.if-x.false
-    c.in-Nothing-size_in.is c.size_in-else-x.ensures
+returns-in_err-size-2 c =
+    c.from_residual-in_err-size-2.ensures ∙ number_plain_not c.args.x c.if-x.false c.in_err-size-2.ensures
 
-pub returns-in-Value-size_in : goal.returns-in-Value-size_in
+pub returns : goal.returns
 unfolding of_bits
-returns-in-Value-size_in c = number_plain c.args.x c.size_in-else-x.result
-    c.if-x.false _ c.in-Value-size_in.is c.size_in-else-x.ensures
+returns c = number_plain c.args.x c.if-x.false c.in_ok-size-2.size c.in_ok-size-2.ensures

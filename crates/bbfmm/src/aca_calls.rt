@@ -4,6 +4,7 @@ ghost use Rattle.aca_steps.specs.Memories.{behind};
 ghost use Rattle.aca_told.specs.Told.{crossed, cross_told};
 
 use aca_told::aca_partial_pivoting_told;
+use common::told_number;
 
 // The block as U times the transpose of V, with the rows and columns that were read for it, in either mode; rank, stop and rows read
 // in `counts`, the estimate and the smallest pivot's size in `numbers`.
@@ -29,7 +30,7 @@ pub extern "C" fn bbfmm_aca_partial_pivoting(
         (behind u.old v.old row_list.old column_list.old row.old column.old)
         counts.old numbers.old }
 {
-    aca_partial_pivoting_told(
+    told_number(aca_partial_pivoting_told(
         rows,
         columns,
         samples,
@@ -43,5 +44,5 @@ pub extern "C" fn bbfmm_aca_partial_pivoting(
         column,
         counts,
         numbers,
-    )
+    ))
 }

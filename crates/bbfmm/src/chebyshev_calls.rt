@@ -6,6 +6,7 @@ ghost use Rattle.chebyshev.specs.Polynomials.{polynomials_call};
 ghost use Rattle.chebyshev.specs.Second.{second_call};
 
 use chebyshev::{evaluate_chebyshev_polynomials, evaluate_second_derivatives};
+use common::told_number;
 use nodes::{generate_chebyshev_nodes, generate_node_set};
 
 // The nodes of an order, rising.
@@ -13,7 +14,7 @@ use nodes::{generate_chebyshev_nodes, generate_node_set};
 pub extern "C" fn bbfmm_generate_chebyshev_nodes(order: usize, nodes: &mut [f64]) -> u8
     ensures { (result, nodes.new) ≡ nodes_call order nodes.old }
 {
-    generate_chebyshev_nodes(order, nodes)
+    told_number(generate_chebyshev_nodes(order, nodes))
 }
 
 // The nodes of an order in a set, rising: 0 is the Rust's, 1 is mirror-exact.
@@ -21,7 +22,7 @@ pub extern "C" fn bbfmm_generate_chebyshev_nodes(order: usize, nodes: &mut [f64]
 pub extern "C" fn bbfmm_generate_node_set(order: usize, set: usize, nodes: &mut [f64]) -> u8
     ensures { (result, nodes.new) ≡ set_call order set nodes.old }
 {
-    generate_node_set(order, set, nodes)
+    told_number(generate_node_set(order, set, nodes))
 }
 
 // T and, if wanted, T' at each point: a row a point, a column a polynomial.
@@ -37,7 +38,7 @@ pub extern "C" fn bbfmm_evaluate_chebyshev_polynomials(
     ensures { (result, tn.new, dtn.new) ≡
         polynomials_call order rows with_derivatives points.now tn.old dtn.old }
 {
-    evaluate_chebyshev_polynomials(order, rows, points, with_derivatives, tn, dtn)
+    told_number(evaluate_chebyshev_polynomials(order, rows, points, with_derivatives, tn, dtn))
 }
 
 // T, T' and T'' at each point: a row a point, a column a polynomial.
@@ -53,5 +54,5 @@ pub extern "C" fn bbfmm_evaluate_second_derivatives(
     ensures { (result, (tn.new, dtn.new, ddtn.new)) ≡
         second_call order rows points.now (tn.old, dtn.old, ddtn.old) }
 {
-    evaluate_second_derivatives(order, rows, points, tn, dtn, ddtn)
+    told_number(evaluate_second_derivatives(order, rows, points, tn, dtn, ddtn))
 }

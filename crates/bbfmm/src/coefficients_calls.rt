@@ -5,6 +5,7 @@ ghost use Rattle.coefficients.specs.Coefficients.{coefficients_call};
 ghost use Rattle.coefficients.specs.Pair.{wanted_of};
 
 use coefficients::{Wanted, get_approximation_coefficients, scale_points};
+use common::told_number;
 
 // Points become reference coordinates in place.
 #[unsafe(no_mangle)]
@@ -17,7 +18,7 @@ pub extern "C" fn bbfmm_scale_points(
 ) -> u8
     ensures { (result, points.new) ≡ scale_call dimension rows side centre.now points.old }
 {
-    scale_points(dimension, rows, side, centre, points)
+    told_number(scale_points(dimension, rows, side, centre, points))
 }
 
 // Without gradients the side is not looked at.
@@ -50,7 +51,7 @@ pub extern "C" fn bbfmm_get_approximation_coefficients(
         coordinates.now
         (values.old, gradients.old, factors.old, slopes.old) }
 {
-    get_approximation_coefficients(
+    told_number(get_approximation_coefficients(
         dimension,
         order,
         rows,
@@ -61,5 +62,5 @@ pub extern "C" fn bbfmm_get_approximation_coefficients(
         gradients,
         factors,
         slopes,
-    )
+    ))
 }

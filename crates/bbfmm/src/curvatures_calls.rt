@@ -3,6 +3,7 @@ ghost use Rattle.std.specs.Prelude.{◌≡◌};
 ghost use Rattle.curvatures.specs.Curvatures.{curvature_call};
 
 use coefficients::get_curvature_coefficients;
+use common::told_number;
 
 // How what each node of a cell counts for bends at each point, for every pair of axes.
 #[unsafe(no_mangle)]
@@ -23,7 +24,7 @@ pub extern "C" fn bbfmm_get_curvature_coefficients(
         curvature_call dimension order rows side node_polynomials.now coordinates.now
         (curvatures.old, factors.old, slopes.old, bends.old, room.old) }
 {
-    get_curvature_coefficients(
+    told_number(get_curvature_coefficients(
         dimension,
         order,
         rows,
@@ -35,5 +36,5 @@ pub extern "C" fn bbfmm_get_curvature_coefficients(
         slopes,
         bends,
         room,
-    )
+    ))
 }

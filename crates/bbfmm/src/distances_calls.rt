@@ -3,6 +3,7 @@ ghost use Rattle.std.specs.Prelude.{◌≡◌};
 ghost use Rattle.roots.specs.Values.{SquareRoot};
 ghost use Rattle.distances.specs.Distances.{sample_call};
 
+use common::told_number;
 use distances::sample_distances;
 use roots::square_root;
 
@@ -30,7 +31,7 @@ pub extern "C" fn bbfmm_sample_distances(
         sample_call dimension order side reference nodes.now
         (sources.old, targets.old, block.old) }
 {
-    sample_distances(
+    told_number(sample_distances(
         dimension, order, side, reference, nodes, sources, targets, block,
-    )
+    ))
 }

@@ -2,6 +2,7 @@
 ghost use Rattle.std.specs.Prelude.{◌≡◌};
 ghost use Rattle.points.specs.Points.{target_call, source_call};
 
+use common::told_number;
 use points::{generate_chebyshev_source_points, generate_chebyshev_target_points};
 
 // Where the nodes of a block with this side lie, about the origin.
@@ -15,7 +16,7 @@ pub extern "C" fn bbfmm_generate_chebyshev_target_points(
 ) -> u8
     ensures { (result, points.new) ≡ target_call dimension order side nodes.now points.old }
 {
-    generate_chebyshev_target_points(dimension, order, side, nodes, points)
+    told_number(generate_chebyshev_target_points(dimension, order, side, nodes, points))
 }
 
 // The same for the block at the reference vector with this number.
@@ -30,5 +31,5 @@ pub extern "C" fn bbfmm_generate_chebyshev_source_points(
 ) -> u8
     ensures { (result, points.new) ≡ source_call dimension order side reference nodes.now points.old }
 {
-    generate_chebyshev_source_points(dimension, order, side, reference, nodes, points)
+    told_number(generate_chebyshev_source_points(dimension, order, side, reference, nodes, points))
 }

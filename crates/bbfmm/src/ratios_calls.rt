@@ -3,6 +3,7 @@ ghost use Rattle.std.specs.Prelude.{◌≡◌};
 ghost use Rattle.ratios.specs.Ratios.{ratios_call};
 
 use coefficients::Cell;
+use common::told_number;
 use ratios::graham_ratios;
 
 // Graham's ratio at each point, or a word why there is none.
@@ -35,7 +36,7 @@ pub extern "C" fn bbfmm_graham_ratios(
         side,
         rows,
     };
-    graham_ratios(
+    told_number(graham_ratios(
         cell,
         floor,
         centre,
@@ -48,5 +49,5 @@ pub extern "C" fn bbfmm_graham_ratios(
         factors,
         answers,
         ratios,
-    )
+    ))
 }

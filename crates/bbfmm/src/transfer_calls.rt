@@ -3,6 +3,7 @@ ghost use Rattle.std.specs.Prelude.{◌≡◌};
 ghost use Rattle.operators.specs.Operators.{operators_call};
 ghost use Rattle.transfer.specs.Tensor.{transfer_call};
 
+use common::told_number;
 use operators::get_m2m_transfer_operators;
 use transfer::apply_cheb_tensor_transfer;
 
@@ -17,7 +18,7 @@ pub extern "C" fn bbfmm_get_m2m_transfer_operators(
     ensures { (result, operators.new) ≡
         operators_call order nodes.now node_polynomials.now operators.old }
 {
-    get_m2m_transfer_operators(order, nodes, node_polynomials, operators)
+    told_number(get_m2m_transfer_operators(order, nodes, node_polynomials, operators))
 }
 
 // The input moved from a child to its block, or back; the result is in `first` for dimension 2, in `second` otherwise.
@@ -36,7 +37,7 @@ pub extern "C" fn bbfmm_apply_cheb_tensor_transfer(
         transfer_call dimension order child transpose input.now operators.now first.old
         second.old }
 {
-    apply_cheb_tensor_transfer(
+    told_number(apply_cheb_tensor_transfer(
         dimension, order, child, transpose, input, operators, first, second,
-    )
+    ))
 }

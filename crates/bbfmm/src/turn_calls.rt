@@ -4,6 +4,7 @@ ghost use Rattle.turn.specs.Tables.{table_call};
 ghost use Rattle.turn_tables.specs.Turned.{turned, returned};
 ghost use Rattle.turn_told.specs.Told.{look_up_told, follow_told, reference_told};
 
+use common::told_number;
 use turn::{combined_permutation, inverse_permutation};
 use turn_told::{follow_node_told, look_up_told, reference_vector_told};
 
@@ -18,7 +19,7 @@ pub extern "C" fn bbfmm_look_up(
 ) -> u8
     ensures { (result, answer.new) ≡ look_up_told dimension (x, y, z) answer.old }
 {
-    look_up_told(dimension, x, y, z, answer)
+    told_number(look_up_told(dimension, x, y, z, answer))
 }
 
 // Where a node goes under the table of the vector's case, and which node comes to its place.
@@ -34,7 +35,7 @@ pub extern "C" fn bbfmm_follow_node(
 ) -> u8
     ensures { (result, answer.new) ≡ follow_told dimension order (x, y, z) node answer.old }
 {
-    follow_node_told(dimension, order, x, y, z, node, answer)
+    told_number(follow_node_told(dimension, order, x, y, z, node, answer))
 }
 
 // The three entries of the reference vector with this number.
@@ -42,7 +43,7 @@ pub extern "C" fn bbfmm_follow_node(
 pub extern "C" fn bbfmm_reference_vector(dimension: usize, number: usize, vector: &mut [i32]) -> u8
     ensures { (result, vector.new) ≡ reference_told dimension number vector.old }
 {
-    reference_vector_told(dimension, number, vector)
+    told_number(reference_vector_told(dimension, number, vector))
 }
 
 // The table of a case: which node of the turned block each node of the reference block becomes.
@@ -55,7 +56,7 @@ pub extern "C" fn bbfmm_combined_permutation(
 ) -> u8
     ensures { (result, table.new) ≡ table_call dimension order case (turned dimension order case) table.old }
 {
-    combined_permutation(dimension, order, case, table)
+    told_number(combined_permutation(dimension, order, case, table))
 }
 
 // The inverse of that table.
@@ -68,5 +69,5 @@ pub extern "C" fn bbfmm_inverse_permutation(
 ) -> u8
     ensures { (result, table.new) ≡ table_call dimension order case (returned dimension order case) table.old }
 {
-    inverse_permutation(dimension, order, case, table)
+    told_number(inverse_permutation(dimension, order, case, table))
 }

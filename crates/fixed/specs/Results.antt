@@ -1,13 +1,13 @@
 -- Document 01's fixed results, as one table: each row is a line of the document, said of the definition that a call's contract cites.
-use Rattle.std.specs.Prelude.{ℕ, ◌≡◌, true, false, List, [], ◌∷◌, pos, negsuc, Float}
+use Rattle.std.specs.Prelude.{ℕ, ◌≡◌, true, false, List, [], ◌∷◌, pos, negsuc, Float, Ok}
 use Rattle.std.proofs.Math.Option.{some}
 use Rattle.std.specs.Float.Ieee.{neg, of_bits}
 use Rattle.std.specs.Float.{binary64}
+use Rattle.common.specs.Numbers.{told}
 use Rattle.common.specs.Floats.{float, zero₆₄, one₆₄, two₆₄, half₆₄}
-use Rattle.vectors.specs.LookUps.{told_look_up, look_up}
+use Rattle.vectors.specs.LookUps.{look_up}
 use Rattle.turn.specs.Tables.{table_call}
 use Rattle.turn_tables.specs.Turned.{turned, returned}
-use Rattle.vectors.specs.declared.LookUp.TheVariants as look
 use Rattle.chebyshev.specs.Polynomials.{polynomials_call}
 use Rattle.transfer.specs.Tensor.{transfer_call}
 use Rattle.choices.specs.Argmax.{argmax_call}
@@ -36,13 +36,13 @@ lent x i = memory (four x x x x) (four x x x x) (two i i) (two i i) (two x x) (t
 pub record Fixed : Type 0 where
   -- D=3 (0,-2,1): index 158, case 33, reference 1
   pub vector_158 :
-      look_up 3 (pos 0, negsuc 1, pos 1) ≡ told_look_up (look.Found (record { index = 158; case = 33; reference = 1; near = false }))
+      look_up 3 (pos 0, negsuc 1, pos 1) ≡ told (Ok (record { index = 158; case = 33; reference = 1; near = false }))
   -- D=1 (-3): 0, 0, 1
-  pub vector_0 : look_up 1 (negsuc 2, pos 0, pos 0) ≡ told_look_up (look.Found (record { index = 0; case = 0; reference = 1; near = false }))
+  pub vector_0 : look_up 1 (negsuc 2, pos 0, pos 0) ≡ told (Ok (record { index = 0; case = 0; reference = 1; near = false }))
   -- D=2 (3,3): 48, 6, 6
-  pub vector_48 : look_up 2 (pos 3, pos 3, pos 0) ≡ told_look_up (look.Found (record { index = 48; case = 6; reference = 6; near = false }))
+  pub vector_48 : look_up 2 (pos 3, pos 3, pos 0) ≡ told (Ok (record { index = 48; case = 6; reference = 6; near = false }))
   -- D=2 (1,-1): 30, 4, 0, near
-  pub vector_30 : look_up 2 (pos 1, negsuc 0, pos 0) ≡ told_look_up (look.Found (record { index = 30; case = 4; reference = 0; near = true }))
+  pub vector_30 : look_up 2 (pos 1, negsuc 0, pos 0) ≡ told (Ok (record { index = 30; case = 4; reference = 0; near = true }))
   -- D=2, p=2, case 3: table 2,0,3,1; inverse 1,3,0,2
   pub table : (i : ℕ) → table_call 2 2 3 (turned 2 2 3) (four i i i i) ≡ (0, four 2 0 3 1)
   pub inverse : (i : ℕ) → table_call 2 2 3 (returned 2 2 3) (four i i i i) ≡ (0, four 1 3 0 2)

@@ -8,6 +8,7 @@ use Rattle.bbfmm.proofs.coefficients_calls.bbfmm_get_approximation_coefficients.
 pub returns : goal.returns
 returns c =
     let a = c.args in
-    c.get_approximation_coefficients.ensures
+    rw c.told_number.ensures
+    (c.get_approximation_coefficients.ensures
     ∙ ap (λ (x : Wanted). coefficients_call a.dimension a.order a.rows x a.node_polynomials.now a.coordinates.now
-    (a.values.now, a.gradients.now, a.factors.now, a.slopes.now)) c.wanted_of.ensures
+    (a.values.now, a.gradients.now, a.factors.now, a.slopes.now)) c.wanted_of.ensures)

@@ -5,4 +5,4 @@ use Rattle.bbfmm.proofs.turn_calls.bbfmm_follow_node.Goals as goal
 
 pub returns : goal.returns
 returns c =
-    c.follow_node_told.ensures ∙ rw (to_z-of_z c.ranges.x, to_z-of_z c.ranges.y, to_z-of_z c.ranges.z)
+    rw c.told_number.ensures (c.follow_node_told.ensures ∙ rw (to_z-of_z c.ranges.x, to_z-of_z c.ranges.y, to_z-of_z c.ranges.z))

@@ -5,4 +5,4 @@ use Rattle.bbfmm.proofs.turn_calls.bbfmm_look_up.Goals as goal
 
 pub returns : goal.returns
 returns c =
-    c.look_up_told.ensures ∙ rw (to_z-of_z c.ranges.x, to_z-of_z c.ranges.y, to_z-of_z c.ranges.z)
+    rw c.told_number.ensures (c.look_up_told.ensures ∙ rw (to_z-of_z c.ranges.x, to_z-of_z c.ranges.y, to_z-of_z c.ranges.z))

@@ -7,7 +7,7 @@ use Rattle.aca_steps.specs.Memories.{Memory}
 use Rattle.aca.specs.Reports.{told}
 use Rattle.aca.specs.Runs.{approximation, call, aca_call}
 use Rattle.common.specs.declared.refusals.Refusal.{Refusal}
-use Rattle.aca.specs.declared.Report.{Report}
+use Rattle.aca.specs.declared.Report.{Report as Made}
 
 module _ (m n : ℕ) (a b : List Float) where
   -- one entry of the blocks is the same value of the format; row i; and column j
@@ -33,7 +33,7 @@ module _ (m n : ℕ) (a b : List Float) where
       -- where as many samples are lent, one call: the number, the report, and all lent memory
       pub same_call : length a ≡ length b → aca_call m n a epsilon restart t ≡ aca_call m n b epsilon restart t
       -- and what two programs that meet the contract answer and leave is the same
-      pub same_answer : length a ≡ length b → (r r' : Result Report Refusal) (after after' : Memory) →
+      pub same_answer : length a ≡ length b → (r r' : Result Made Refusal) (after after' : Memory) →
           call (told r) after ≡ aca_call m n a epsilon restart t → call (told r') after' ≡ aca_call m n b epsilon restart t →
           (r ≡ r') × (after ≡ after')
 

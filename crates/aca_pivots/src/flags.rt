@@ -15,7 +15,7 @@ const WORDS: usize = 16;
 const WORD_BITS: usize = 64;
 
 // A flag for each row or column that a block may have.
-#[derive(Drop)]
+#[derive(Clone, Copy, Debug, Default, PartialEq, Eq, PartialOrd, Ord, Hash)]
 pub struct Flags {
     pub words: [u64; WORDS],
 }

@@ -39,16 +39,23 @@ fn better(entries: &[f64], mask: &[u8], k: usize, held: Best) -> Best
     Best { place: k, worth: s }
 }
 
+// Two entries a turn: half the turns are half the counting.
 pub fn pick(entries: &[f64], mask: &[u8]) -> Pivot
     requires { length entries.now ≤ length mask.now }
     ensures { result ≡ pivot entries.now (counts mask.now) }
 {
+    let n = entries.len();
     let mut largest = Best {
         place: 0,
         worth: 0.0,
     };
-    for k in 0..entries.len() {
+    for turn in 0..n / 2 {
+        let k = turn * 2;
         largest = better(entries, mask, k, largest);
+        largest = better(entries, mask, k + 1, largest);
+    }
+    if n % 2 == 1 {
+        largest = better(entries, mask, n - 1, largest);
     }
     pivot_at(entries, largest.place)
 }

@@ -10,7 +10,7 @@ use Rattle.aca_progress.specs.Working.{usable_here}
 use Rattle.aca_progress.specs.declared.Progress.{Progress}
 use Rattle.aca_progress.specs.declared.Stop.{Stop as Reason}
 use Rattle.std.specs.declared.ops.ControlFlow.{ControlFlow}
-use Rattle.aca_progress.specs.Steps.{step_of}
+use Rattle.aca_progress.specs.Steps.{step_of, stop_number}
 use Rattle.aca_progress.proofs.Steps.{step_same}
 
 module _ (restart : Bool) (on : ℕ → Bool) where
@@ -24,6 +24,10 @@ module _ (restart : Bool) (on : ℕ → Bool) where
   judge_determined : (m k : ℕ) (tolerance norm : Float) (s : Progress) (r r' : ControlFlow (Reason × Progress) Progress) →
       step_of r ≡ judged restart m k tolerance norm on s → step_of r' ≡ judged restart m k tolerance norm on s → r ≡ r'
   judge_determined m k tolerance norm s r r' e e' = step_same r r' (e ∙ sym e')
+
+-- of `Stop::number`
+number_determined : (stop : Reason) (r r' : ℕ) → r ≡ stop_number stop → r' ≡ stop_number stop → r ≡ r'
+number_determined stop r r' = coincide r r' (stop_number stop)
 
 note_determined : (s : Progress) (size : Float) (r r' : Progress) → r ≡ noted s size → r' ≡ noted s size → r ≡ r'
 note_determined s size r r' = coincide r r' (noted s size)

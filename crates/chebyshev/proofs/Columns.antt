@@ -48,20 +48,28 @@ module _ (rows : ℕ) where
         fill_read at (cell rows f) l (at - rows - rows + i) nan (omega arith) ∙ ap (cell rows f) (place_two j i at e) ∙ cell_at rows f i j h
 
   -- One more column of a matrix f is filled, where its first two columns are as f says, and a later one follows from f's recurrence.
-  module _ (f : ℕ → ℕ → Float) (order j : ℕ) (below : j < order) (l now : List Float) (long : length l ≡ order * rows) where
+  module _ (f : ℕ → ℕ → Float) (l now : List Float) (j at : ℕ) (e : at ≡ j * rows) (fits : at + rows ≤ length l) where
     pub column_filled : (first second later : ℕ → Float) → ((i : ℕ) → first i ≡ f i 0) → ((i : ℕ) → second i ≡ f i 1) →
-        ((k i : ℕ) → j ≡ suc (suc k) → i < rows → later i ≡ f i (suc (suc k))) → now ≡ stretch 0 (j * rows) (cell rows f) l →
-        stretch (j * rows) rows (column_of first second later j) now ≡ stretch 0 ((j + 1) * rows) (cell rows f) l
+        ((k i : ℕ) → j ≡ suc (suc k) → i < rows → later i ≡ f i (suc (suc k))) → now ≡ stretch 0 at (cell rows f) l →
+        stretch at rows (column_of first second later j) now ≡ stretch 0 (at + rows) (cell rows f) l
     unfolding column_of
     column_filled first second later a b c made =
-        rw (made, next_column j rows)
-        (fill_on (j * rows) rows (cell rows f) _ l (λ i h. right j i refl h ∙ sym (cell_at rows f i j h))
-        (rw long (column_fits j order rows (j * rows) below refl)))
+        rw made
+        (fill_on at rows (cell rows f) _ l (λ i h. right j i refl h ∙ sym (rw e (cell_at rows f i j h))) fits)
       where
         right : (k i : ℕ) → j ≡ k → i < rows → column_of first second later k i ≡ f i k
         right zero i q h = a i
         right (suc zero) i q h = b i
         right (suc (suc k)) i q h = c k i q h
+
+  -- the same of a buffer for all columns below an order
+  module _ (f : ℕ → ℕ → Float) (order j : ℕ) (below : j < order) (l now : List Float) (long : length l ≡ order * rows) where
+    pub column_filled_below : (first second later : ℕ → Float) → ((i : ℕ) → first i ≡ f i 0) → ((i : ℕ) → second i ≡ f i 1) →
+        ((k i : ℕ) → j ≡ suc (suc k) → i < rows → later i ≡ f i (suc (suc k))) → now ≡ stretch 0 (j * rows) (cell rows f) l →
+        stretch (j * rows) rows (column_of first second later j) now ≡ stretch 0 ((j + 1) * rows) (cell rows f) l
+    column_filled_below first second later a b c made =
+        rw (next_column j rows)
+        (column_filled f l now j (j * rows) refl (rw long (column_fits j order rows (j * rows) below refl)) first second later a b c made)
 
 module _ (rows : ℕ) (x : List Float) where
   abbrev entry_T : ℕ → ℕ → Float
@@ -79,14 +87,14 @@ module _ (rows : ℕ) (x : List Float) where
     pub values_filled : stretch (j * rows) rows (column_T j rows x now (j * rows)) now ≡ stretch 0 ((j + 1) * rows) (cell rows entry_T) l
     unfolding T
     values_filled =
-        column_filled rows entry_T order j below l now long _ _ _ (λ i. refl) (λ i. refl)
+        column_filled_below rows entry_T order j below l now long _ _ _ (λ i. refl) (λ i. refl)
         (λ k i q h. rw (value_before (suc k) i q h) (ap (minus _) (rw made (back_two rows entry_T l k i (j * rows) h (rw q))))) made
 
     pub slopes_filled : (l' now' : List Float) → length l' ≡ order * rows → now' ≡ stretch 0 (j * rows) (cell rows entry_T') l' →
         stretch (j * rows) rows (column_T' j rows x now now' (j * rows)) now' ≡ stretch 0 ((j + 1) * rows) (cell rows entry_T') l'
     unfolding T'
     slopes_filled l' now' long' made' =
-        column_filled rows entry_T' order j below l' now' long' _ _ _ (λ i. refl) (λ i. refl)
+        column_filled_below rows entry_T' order j below l' now' long' _ _ _ (λ i. refl) (λ i. refl)
         (λ k i q h. let one : get_or now' (j * rows - rows + i) nan ≡ entry_T' i (suc k) = rw made'
         (back_one rows entry_T' l' (suc k) i (j * rows) h (rw q)) in
         let two : get_or now' (j * rows - rows - rows + i) nan ≡ entry_T' i k = rw made'

@@ -17,7 +17,7 @@ use Rattle.chebyshev.specs.Polynomials.{at_points, polynomials_number}
 use Rattle.chebyshev.specs.Second.{Memory, second_number, second_call}
 use Rattle.polynomial_columns.specs.Working.{column_T''}
 use Rattle.chebyshev.proofs.Calls.{Lengths, polynomials_accepted}
-use Rattle.chebyshev.proofs.Columns.{back_one, back_two, column_filled}
+use Rattle.chebyshev.proofs.Columns.{back_one, back_two, column_filled_below}
 
 -- COLUMN BY COLUMN
 
@@ -33,7 +33,7 @@ module _ (rows : ℕ) (x : List Float) where
       stretch (j * rows) rows (column_T'' j rows x now now' (j * rows)) now' ≡ stretch 0 ((j + 1) * rows) (cell rows entry_T'') l'
   unfolding T''
   bends_filled order j below l now l' now' made long made' =
-      column_filled rows entry_T'' order j below l' now' long _ _ _ (λ i. refl) (λ i. refl)
+      column_filled_below rows entry_T'' order j below l' now' long _ _ _ (λ i. refl) (λ i. refl)
       (λ k i q h. let slope : get_or now (j * rows - rows + i) nan ≡ entry_T' i (suc k) = rw made
       (back_one rows entry_T' l (suc k) i (j * rows) h (rw q)) in
       let one : get_or now' (j * rows - rows + i) nan ≡ entry_T'' i (suc k) = rw made'

@@ -102,8 +102,8 @@ fn scale_axis(rows: usize, side: f64, centre: f64, at: usize, points: &mut [f64]
         stretch at rows (λ i. coordinate_in side centre (get_or points.old (at + i) nan)) points.old }
 {
     for i in 0..rows {
-        let x = scale(Physical(points[at + i]), Physical(centre), side);
-        points[at + i] = x.0;
+        let scaled = scale(Physical(points[at + i]), Physical(centre), side);
+        points[at + i] = scaled.0;
     }
 }
 

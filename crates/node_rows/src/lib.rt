@@ -161,12 +161,36 @@ static NODES: [f64; 136] = [
     0.9951847266721969,
 ];
 
+// The row of one order. The order is a constant, so that a row is copied with no loop and no call.
+fn fill_row<const ORDER: usize>(nodes: &mut [f64])
+    requires { (1 ≤ ORDER) × (ORDER ≤ 16) × (length nodes.old ≡ ORDER) }
+    ensures { nodes.new ≡ tabulate ORDER (node ORDER) }
+{
+    let start = ORDER * (ORDER - 1) / 2;
+    common::copy_column(ORDER, &NODES[start..start + ORDER], 0, nodes);
+}
+
 // The row of the order that is the buffer's length.
 pub fn fill_nodes(nodes: &mut [f64])
     requires { (1 ≤ length nodes.old) × (length nodes.old ≤ 16) }
     ensures { let order = length nodes.old in nodes.new ≡ tabulate order (node order) }
 {
-    let order = nodes.len();
-    let start = order * (order - 1) / 2;
-    nodes.copy_from_slice(&NODES[start..start + order]);
+    match nodes.len() {
+        1 => fill_row::<1>(nodes),
+        2 => fill_row::<2>(nodes),
+        3 => fill_row::<3>(nodes),
+        4 => fill_row::<4>(nodes),
+        5 => fill_row::<5>(nodes),
+        6 => fill_row::<6>(nodes),
+        7 => fill_row::<7>(nodes),
+        8 => fill_row::<8>(nodes),
+        9 => fill_row::<9>(nodes),
+        10 => fill_row::<10>(nodes),
+        11 => fill_row::<11>(nodes),
+        12 => fill_row::<12>(nodes),
+        13 => fill_row::<13>(nodes),
+        14 => fill_row::<14>(nodes),
+        15 => fill_row::<15>(nodes),
+        _ => fill_row::<16>(nodes),
+    }
 }

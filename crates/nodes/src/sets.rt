@@ -6,9 +6,8 @@ ghost use Rattle.node_rows.specs.Rows.{node};
 ghost use Rattle.nodes.specs.NodeSets.{Decodes};
 ghost use Rattle.nodes.specs.Sets.{mirrored, set_call};
 
-use crate::check_nodes;
+use crate::{check_nodes, generate_chebyshev_nodes};
 use common::Refusal;
-use node_rows::fill_nodes;
 
 // Callers name a set by its number.
 #[derive(Clone, Copy, PartialEq, Eq)]
@@ -46,13 +45,16 @@ fn mirror_nodes(nodes: &mut [f64])
     }
 }
 
-// The nodes of an order in a set, rising, into a buffer of that length: 0 is the set of `generate_chebyshev_nodes`, 1 is mirror-exact.
+// The nodes of an order in a set, rising, into a buffer of that length: 0 is the set of `generate_chebyshev_nodes`, 1 is mirror-exact. An
+// unknown set is tested apart, so that the rows are filled in one place alone, which the compiler copies into the call.
 pub fn generate_node_set(order: usize, set: usize, nodes: &mut [f64]) -> Result<(), Refusal>
     ensures { (told_number result, nodes.new) ≡ set_call order set nodes.old }
 {
-    check_nodes(order, nodes.len())?;
-    let set = NodeSet::try_from(set)?;
-    fill_nodes(nodes);
+    let Ok(set) = NodeSet::try_from(set) else {
+        check_nodes(order, nodes.len())?;
+        return Err(Refusal::NoSet);
+    };
+    generate_chebyshev_nodes(order, nodes)?;
     if set == NodeSet::MirrorExact {
         mirror_nodes(nodes);
     }

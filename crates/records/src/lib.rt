@@ -33,9 +33,10 @@ fn fits(input: &[u8], room: usize) -> bool
     ensures { result ≡ leb (length (Text·text input.now)) room }
 {
     let (records, tail) = input.as_chunks::<4>();
+    let mut spare = [0u8; ROOM];
     let mut left = room;
     for record in records {
-        let size = size_of(record);
+        let size = size_of(record, &mut spare);
         if left < size {
             return false;
         }
@@ -47,12 +48,11 @@ fn fits(input: &[u8], room: usize) -> bool
     true
 }
 
-// How many bytes the line of a record has: it is put together to be measured.
-fn size_of(bytes: &[u8; 4]) -> usize
+// How many bytes the line of a record has: it is put together to be measured, in room that is lent once for all records.
+fn size_of(bytes: &[u8; 4], spare: &mut [u8; ROOM]) -> usize
     ensures { result ≡ length (record_line (get_or bytes.now 0 0) (get_or bytes.now 1 0) (get_or bytes.now 2 0) (get_or bytes.now 3 0)) }
 {
-    let mut room = [0u8; ROOM];
-    let mut line = Line::new(&mut room);
+    let mut line = Line::new(spare);
     put_record(&mut line, bytes);
     line.to
 }

@@ -5,7 +5,11 @@ use Prim.Native.Nat.{ℕ}
 use Rattle.common.proofs.Determined.{coincide}
 use Rattle.text.specs.Text.{decimal, spaced, counted, refused_word, unknown_word, put, Ended}
 
+-- the memory and the place of a line: of `Line::new`, and of what puts something there
 module _ (line exit exit' : List ℕ) (to r r' : ℕ) where
+  new_determined : exit ≡ line → exit' ≡ line → r ≡ 0 → r' ≡ 0 → (r ≡ r') × (exit ≡ exit')
+  new_determined e e' h h' = (coincide r r' 0 h h', coincide exit exit' line e e')
+
   put_determined : (word : List ℕ) → (r, exit) ≡ put to word line → (r', exit') ≡ put to word line →
       ◌≡◌ {A = ℕ × List ℕ} (r, exit) (r', exit')
   put_determined word = coincide (r, exit) (r', exit') (put to word line)
@@ -36,5 +40,5 @@ module _ (line exit exit' : List ℕ) (to r r' : ℕ) where
       ◌≡◌ {A = ℕ × List ℕ} (r, exit) (r', exit')
   put_unknown_determined n = put_determined (unknown_word ++ spaced n)
 
-  end_line_determined : Ended to line exit r → Ended to line exit' r' → (r ≡ r') × (exit ≡ exit')
-  end_line_determined e e' = (e.count ∙ sym e'.count, e.line ∙ sym e'.line)
+  end_determined : Ended to line exit r → Ended to line exit' r' → (r ≡ r') × (exit ≡ exit')
+  end_determined e e' = (e.count ∙ sym e'.count, e.line ∙ sym e'.line)

@@ -1,6 +1,6 @@
 -- The text of numbers: how long it is, and that the digits of `io` are its digits. Assumes nothing.
 use mathlib.Core.Path.{◌≡◌}
-use mathlib.Core.List.{List}
+use mathlib.Core.List.{List, [], ◌∷◌}
 use Prim.Native.Nat.{ℕ, zero, suc, ◌+◌, ◌-◌, ◌*◌, ◌/◌, ◌%◌, ◌^◌, ◌≤◌, ◌<◌, zero-le}
 use native.Mathlib.Nat.{not-suc-le-zero, mod-lt, mod-eq_of_lt, one-le-pow, pow-suc, pow-le-pow_right, le_trans, div-lt_iff_lt-mul}
 use native.Mathlib.Nat.{le-div_iff_mul-le}
@@ -24,9 +24,12 @@ pub decimal_length : (n : ℕ) → length (decimal n) ≤ 20
 unfolding decimal
 decimal_length n = in_length 20 n
 
-pub decimal_digit : (n : ℕ) → n < 10 → length (decimal n) ≡ 1
+pub one_digit : (n : ℕ) → n < 10 → decimal n ≡ (48 + n) ∷ []
 unfolding decimal decimal_in
-decimal_digit n l = rw (lt-ltb n 10 l)
+one_digit n l = rw (lt-ltb n 10 l)
+
+pub decimal_digit : (n : ℕ) → n < 10 → length (decimal n) ≡ 1
+decimal_digit n l = rw (one_digit n l)
 
 pub counted_length : (w : List ℕ) (n : ℕ) → length (counted w n) ≡ length w + (length (decimal n) + 2)
 counted_length w n = rw (length-append, length-append) (omega arith)

@@ -33,24 +33,34 @@ impl<'a> Line<'a> {
         }
     }
 
+    // Most words have room, and are stored at once: of a word that the caller writes out, the compiler knows the length.
     pub fn put(&mut self, word: &[u8])
         ensures same { self.new.bytes.ghost_name ≡ self.old.bytes.ghost_name }
         ensures put { (self.new.to, self.new.bytes.now) ≡ Text·put self.old.to word.now self.old.bytes.now }
     {
         let from = self.to.min(self.bytes.len());
-        let count = word.len().min(self.bytes.len() - from);
-        self.bytes[from..from + count].copy_from_slice(&word[..count]);
-        self.to += count;
+        let room = self.bytes.len() - from;
+        if word.len() <= room {
+            self.bytes[from..from + word.len()].copy_from_slice(word);
+            self.to += word.len();
+        } else {
+            self.bytes[from..from + room].copy_from_slice(&word[..room]);
+            self.to += room;
+        }
     }
 
-    // A number in decimal.
+    // A number in decimal. Most have one digit.
     pub fn put_number(&mut self, n: u64)
         ensures same { self.new.bytes.ghost_name ≡ self.old.bytes.ghost_name }
         ensures put { (self.new.to, self.new.bytes.now) ≡ Text·put self.old.to (decimal n) self.old.bytes.now }
     {
-        let mut digits = [0u8; 20];
-        let count = io::decimal(n, &mut digits);
-        self.put(&digits[..count]);
+        if n < 10 {
+            self.put_byte(b'0' + n as u8);
+        } else {
+            let mut digits = [0u8; 20];
+            let count = io::decimal(n, &mut digits);
+            self.put(&digits[..count]);
+        }
     }
 
     // A space and a number.
@@ -62,7 +72,8 @@ impl<'a> Line<'a> {
         self.put_number(n);
     }
 
-    // A word, a space, a number and the line's end.
+    // A word, a space, a number and the line's end. A caller writes the word out: with this body in the caller's it is stored at once.
+    #[inline(always)]
     pub fn put_counted(&mut self, word: &[u8], n: u64)
         ensures same { self.new.bytes.ghost_name ≡ self.old.bytes.ghost_name }
         ensures put { (self.new.to, self.new.bytes.now) ≡ Text·put self.old.to (counted word.now n) self.old.bytes.now }

@@ -1,5 +1,5 @@
 -- A pass along an axis takes a half of the operators, and the passes alternate two buffers. Assumes nothing.
-use mathlib.Core.Path.{◌≡◌, ap, ◌∙◌}
+use mathlib.Core.Path.{◌≡◌, refl, ap, ◌∙◌}
 use mathlib.Core.Bool.{Bool}
 use mathlib.Core.List.{List}
 use Prim.Native.Nat.{ℕ, zero, suc, ◌+◌, ◌-◌, ◌*◌, ◌/◌, ◌%◌, ◌^◌, ◌<◌, ◌≤◌}
@@ -8,9 +8,10 @@ use native.Mathlib.Omega.{arith}
 use lib.Arith.{digits_lt}
 use lib.Ieee.{Float, nan}
 use lib.ListN.{length, get_or, take, drop}
+use Rattle.common.specs.Lists.{stretch}
 use Rattle.common.specs.Refusals.{Shape}
 use Rattle.common.specs.Matrices.{matrix}
-use Rattle.common.proofs.Fill.{part_read}
+use Rattle.common.proofs.Fill.{part_read, fill_all, listed}
 use Rattle.common.proofs.Limits.{power_rows}
 use Rattle.passes.specs.Passes.{passed, directed}
 use Rattle.passes.proofs.Strips.{passed_cong, directed_cong}
@@ -71,3 +72,7 @@ pub pass_ready : (D p w axis o v t : ℕ) → Shape D p → o ≡ (p + p) * p �
     (p ≤ 16) × (axis ≤ 2) × (o ≡ (p + p) * p) × (v ≡ w * p) × (t ≡ p * w)
 pass_ready D p w axis o v t s ho hw ha hv ht =
     (s.order_most, ha, ho, rw hw (hv ∙ power_rows p D s.dimension_least), rw hw (ht ∙ as_columns p D s.dimension_least))
+
+-- a list copied over another of its length
+pub copied : (l over : List Float) → length over ≡ length l → stretch 0 (length l) (λ i. get_or l i nan) over ≡ l
+copied l over h = fill_all (length l) (λ i. get_or l i nan) over h ∙ listed l (length l) nan refl

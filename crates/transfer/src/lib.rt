@@ -121,7 +121,7 @@ pub fn apply_cheb_tensor_transfer(
         first.len(),
         second.len(),
     )?;
-    first.copy_from_slice(input);
+    common::copy_column(input.len(), input, 0, first);
     transfer_axes(shape, child, transpose, operators, first, second);
     Ok(())
 }

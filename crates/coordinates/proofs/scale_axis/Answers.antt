@@ -16,7 +16,7 @@ loop-i-preserved c =
     let a = c.args in
     changing_more a.at a.rows (λ j. coordinate_in a.side a.centre (get_or a.points.now (a.at + j) nan)) _
     (coordinate_in a.side a.centre) _ _ _ nan _ c.loop-i.invariant c.loop-i-test.true
-    c.requires refl refl c.scale-x.ensures
+    c.requires refl refl c.scale-scaled.ensures
 
 pub shape_of-points : goal.shape_of-points
 shape_of-points c = c.loop-i.invariant.long

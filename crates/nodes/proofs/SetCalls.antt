@@ -44,8 +44,13 @@ module _ (p set : ℕ) (l : List Float) where
   set_unknown z u =
       call_refused 17 _ (tabulate p (node_of set p)) l (rw (set_past p set (length l) z, lt-leb set 1 u)) (λ w. omega arith)
 
-  -- A KNOWN SET: the call with no set has answered r and left l'
+  -- A KNOWN SET: the buffer at the end
+  pub set_known : (after : List Float) → nodes_number p (length l) ≡ 0 → set ≤ 1 → after ≡ tabulate p (node_of set p) →
+      (0, after) ≡ set_call p set l
+  unfolding set_call
+  set_known after z u = call_done 0 _ (tabulate p (node_of set p)) l (rw (set_past p set (length l) z, le-leb set 1 u)) after refl
 
+  -- and where the call with no set has answered r and left l'
   module _ (r : ℕ) (l' : List Float) (made : (r, l') ≡ nodes_call p l) where
     number_is : r ≡ nodes_number p (length l)
     unfolding nodes_call
@@ -68,9 +73,7 @@ module _ (p set : ℕ) (l : List Float) where
 
       -- the buffer at the end, whichever set it is of
       known : (after : List Float) → set ≤ 1 → after ≡ tabulate p (node_of set p) → (0, after) ≡ set_call p set l
-      unfolding set_call
-      known after u h =
-          call_done 0 _ (tabulate p (node_of set p)) l (rw (set_past p set (length l) (sym number_is ∙ z), le-leb set 1 u)) after refl h
+      known after u = set_known after (sym number_is ∙ z) u
 
       pub set_mirrored : (after : List Float) → set ≡ 1 → after ≡ tabulate p (mirrored p) → (0, after) ≡ set_call p set l
       set_mirrored after o h = known after (omega arith) (rw o h)
